@@ -1,0 +1,8 @@
+// Numbers in fixed columns of text, right-justified behind blanks: lines of them written, columns and rows of them read.
+mod read;
+mod write;
+
+pub use read::Read;
+pub use read::read_column;
+pub use read::read_row;
+pub use write::write_line;

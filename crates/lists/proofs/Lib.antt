@@ -1,0 +1,5 @@
+-- The laws of lists that the crates above cite.
+pub mod Tests
+pub mod Search
+pub mod Prefix
+pub mod Distinct

@@ -1,0 +1,4 @@
+-- The definitions on lists that the crates above cite.
+pub mod Search
+pub mod Prefix
+pub mod Distinct

@@ -1,0 +1,66 @@
+-- Worked examples, computed. Assumes nothing.
+use mathlib.Core.Path.{_≡_, refl}
+use mathlib.Core.Bool.{true, false}
+use Rattle.lists.specs.Search.{any, below}
+use Rattle.portions.specs.Sets.{has, setOf, run, insert, remove, shares, subset}
+
+-- all the numbers below 64; the last alone; a run that ends before it starts; runs that go past 63
+all : run 0 63 ≡ 18446744073709551615
+unfolding run setOf
+all = refl
+
+last-alone : run 63 63 ≡ 9223372036854775808
+unfolding run setOf
+last-alone = refl
+
+backwards : run 5 3 ≡ 0
+unfolding run setOf
+backwards = refl
+
+past-the-end : run 62 99 ≡ 13835058055282163712
+unfolding run setOf
+past-the-end = refl
+
+out-of-range : run 64 99 ≡ 0
+unfolding run setOf
+out-of-range = refl
+
+-- 63 is a member, and 99, outside, never is
+last-in : has 63 (run 0 63) ≡ true
+unfolding has run setOf
+last-in = refl
+
+outside : has 99 (run 0 63) ≡ false
+unfolding has run setOf
+outside = refl
+
+-- neighbours share nothing; runs with 1 in common do
+neighbours : shares (run 0 0) (run 1 1) ≡ false
+unfolding shares any below has run setOf
+neighbours = refl
+
+touching : shares (run 0 1) (run 1 2) ≡ true
+unfolding shares any below has run setOf
+touching = refl
+
+-- 63 put in and taken out; 64 is put in nowhere
+put-in : insert 63 (run 0 62) ≡ run 0 63
+unfolding insert has run setOf
+put-in = refl
+
+taken-out : remove 63 (run 0 63) ≡ run 0 62
+unfolding remove has run setOf
+taken-out = refl
+
+left-out : insert 64 (run 0 63) ≡ run 0 63
+unfolding insert has run setOf
+left-out = refl
+
+-- a part is in the whole, and the whole not in the part
+part : subset (run 5 40) (run 0 63) ≡ true
+unfolding subset any below has run setOf
+part = refl
+
+whole : subset (run 0 63) (run 5 40) ≡ false
+unfolding subset any below has run setOf
+whole = refl

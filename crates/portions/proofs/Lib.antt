@@ -1,0 +1,4 @@
+-- The laws of sets that the crates above cite.
+pub mod Bits
+pub mod Laws
+pub mod Examples

@@ -1,0 +1,50 @@
+-- Sets of numbers below 64, each held as one number: p is a member where the binary digit of 2 ^ p is 1.
+-- Every set is given by which numbers are members, and every definition computes at numerals of 64 bits. Assumes nothing.
+use Prim.Native.Nat.{ℕ, zero, suc, _+_, _/_, _%_, _^_}
+use mathlib.Core.Bool.{Bool, cond, not, _&&_, _||_}
+use lib.Dec.{eqb, leb}
+use Rattle.lists.specs.Search.{any, below}
+
+-- p is a member of the set
+unfoldable pub has : ℕ → ℕ → Bool
+has p set = eqb (set / 2 ^ p % 2) 1
+
+-- the set of the numbers below n that pass the test
+unfoldable pub setOf : ℕ → (ℕ → Bool) → ℕ
+setOf zero test = 0
+setOf (suc n) test = cond (test n) (2 ^ n) 0 + setOf n test
+
+-- the run from first to last: both, and all between; no number where last is below first
+abbrev pub between : ℕ → ℕ → ℕ → Bool
+between first last p = leb first p && leb p last
+
+unfoldable pub run : ℕ → ℕ → ℕ
+run first last = setOf 64 (between first last)
+
+-- the set with p in it; a number from 64 on is left out
+abbrev pub isOrIn : ℕ → ℕ → ℕ → Bool
+isOrIn p set q = eqb q p || has q set
+
+unfoldable pub insert : ℕ → ℕ → ℕ
+insert p set = setOf 64 (isOrIn p set)
+
+-- the set without p
+abbrev pub isNotAndIn : ℕ → ℕ → ℕ → Bool
+isNotAndIn p set q = not (eqb q p) && has q set
+
+unfoldable pub remove : ℕ → ℕ → ℕ
+remove p set = setOf 64 (isNotAndIn p set)
+
+-- the two sets share a member
+abbrev pub inBoth : ℕ → ℕ → ℕ → Bool
+inBoth a b p = has p a && has p b
+
+unfoldable pub shares : ℕ → ℕ → Bool
+shares a b = any (inBoth a b) (below 64)
+
+-- every member of a is a member of b
+abbrev pub inFirstOnly : ℕ → ℕ → ℕ → Bool
+inFirstOnly a b p = has p a && not (has p b)
+
+unfoldable pub subset : ℕ → ℕ → Bool
+subset a b = not (any (inFirstOnly a b) (below 64))
