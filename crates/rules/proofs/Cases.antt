@@ -1,0 +1,68 @@
+-- The ten cases of 01 marked E, from the rules by computation, in one joint theorem. Assumes nothing.
+use Prim.Native.Nat.{ℕ}
+use mathlib.Core.Path.{_≡_, refl}
+use mathlib.Core.List.{List, [], _∷_, _++_}
+use lib.ListN.{replicate}
+use Rattle.lists.specs.Search as Search
+use Rattle.columns.specs.Text.{bytes}
+use Rattle.columns.specs.Column as Column
+use Rattle.columns.specs.Line as Line
+use Rattle.columns.specs.Reading as Reading
+use Rattle.portions.specs.Sets as Sets
+use Rattle.rules.specs.declared.Seven.{Seven}
+use Rattle.rules.specs.Board as Board
+use Rattle.rules.specs.Call as Call
+use Rattle.rules.specs.Refusals as Refusals
+use Rattle.rules.specs.Effects as Effects
+use Rattle.rules.specs.Plan as Plan
+use Rattle.rules.specs.Journal as Journal
+use Rattle.rules.specs.Step as Step
+
+-- "Plan: P 3, G 4, gates 99 to 0, 0 to 1, 1 to 2, 2 to 99, all kind 1."
+unfoldable pub planText : List ℕ
+planText =
+    bytes "     3     4     0\n" ++ bytes "    99     0     1\n" ++ bytes "     0     1     1\n" ++ bytes "     1     2     1\n"
+    ++ bytes "     2    99     1\n"
+
+-- the call at a time of day 0
+abbrev pub at : ℕ → ℕ → ℕ → ℕ → ℕ → ℕ → Seven
+at time call a b c d = record { day = 0; time = time; call = call; a = a; b = b; c = c; d = d }
+
+-- the journal of a list of calls: the lines that they write to buffers of 55 bytes
+unfoldable pub printed : Board.Board → List Seven → List ℕ
+printed b [] = []
+printed b (s ∷ ss) =
+    Journal.lineAfter s (Refusals.answer b s 55) (Step.allotted b s 55) (replicate 55 0) ++ printed (Step.after b s 55) ss
+
+-- the answers of a list of calls
+unfoldable pub answers : Board.Board → List Seven → List ℕ
+answers b [] = []
+answers b (s ∷ ss) = Refusals.answer b s 55 ∷ answers (Step.after b s 55) ss
+
+-- "GRANTs on that plan with no trains, every gate blocked and the officer right": the answers after the four BLOCKs
+abbrev pub blockAll : List Seven
+blockAll = at 1 4 0 0 0 0 ∷ at 1 4 1 0 0 0 ∷ at 1 4 2 0 0 0 ∷ at 1 4 3 0 0 0 ∷ []
+
+abbrev pub onBlocked : List Seven → List ℕ
+onBlocked calls = answers (Plan.openBoard planText) (blockAll ++ calls)
+
+pub record Cases : Type 0 where
+  -- E1 to E6: the whole output for six calls, byte for byte
+  pub journal : printed (Plan.openBoard planText)
+      (at 2200 1 2 1 1 7 ∷ at 2201 6 1 7 0 0 ∷ at 2202 4 1 0 0 0 ∷ at 2203 6 1 7 0 0 ∷ at 2204 5 1 0 0 0 ∷ at 2260 5 1 0 0 0 ∷ [])
+      ≡ bytes "     0  2200     1     2     1     1     7     0     1\n" ++ bytes "     0  2201     6     1     7     0     0    11     0\n"
+      ++ bytes "     0  2202     4     1     0     0     0     0     0\n" ++ bytes "     0  2203     6     1     7     0     0     0     0\n"
+      ++ bytes "     0  2204     5     1     0     0     0    16     0\n" ++ bytes "     0  2260     5     1     0     0     0     3     0\n"
+  -- E7: "a TOA over 1 to 1 beside one in force over 0 to 0: 0, neighbours share nothing"
+  pub e7 : onBlocked (at 1 1 2 0 0 7 ∷ at 1 6 1 7 0 0 ∷ at 1 1 2 1 1 7 ∷ at 1 6 2 7 0 0 ∷ []) ≡ 0 ∷ 0 ∷ 0 ∷ 0 ∷ 0 ∷ 0 ∷ 0 ∷ 0 ∷ []
+  -- E8: "a TOA over 1 to 2 beside one in force over 0 to 1: 13"
+  pub e8 : onBlocked (at 1 1 2 0 1 7 ∷ at 1 6 1 7 0 0 ∷ at 1 1 2 1 2 7 ∷ at 1 6 2 7 0 0 ∷ []) ≡ 0 ∷ 0 ∷ 0 ∷ 0 ∷ 0 ∷ 0 ∷ 0 ∷ 13 ∷ []
+  -- E9: "TWA inside a TOA, agreed: 0"
+  pub e9 : onBlocked (at 1 1 2 0 2 7 ∷ at 1 6 1 7 0 0 ∷ at 1 1 3 1 1 8 ∷ at 1 3 1 2 7 0 ∷ at 1 6 2 8 0 0 ∷ [])
+      ≡ 0 ∷ 0 ∷ 0 ∷ 0 ∷ 0 ∷ 0 ∷ 0 ∷ 0 ∷ 0 ∷ []
+  -- E10: "a pending TOA over a TWA in force: 13"
+  pub e10 : onBlocked (at 1 1 3 1 1 7 ∷ at 1 6 1 7 0 0 ∷ at 1 1 2 0 2 8 ∷ at 1 6 2 8 0 0 ∷ []) ≡ 0 ∷ 0 ∷ 0 ∷ 0 ∷ 0 ∷ 0 ∷ 0 ∷ 13 ∷ []
+
+pub cases : Cases
+unfolding planText printed answers bytes Search.any Search.first Search.keep Search.change Search.below Column.digitsIn Column.digits Column.column Line.line Reading.sameText Reading.valueFrom Reading.isColumn Reading.readColumn Reading.firstColumn Reading.rowOf Sets.has Sets.setOf Sets.run Sets.insert Sets.remove Sets.shares Board.opened Board.closed Board.live Board.authority Board.touches Board.needs Call.isDay Call.isTime Call.inRange Call.inRanges Call.calls Call.entryOf Call.isCall Call.named Call.inForm Refusals.lowest Refusals.early Refusals.notLive Refusals.notOfficer Refusals.full Refusals.isOpen Refusals.unprotected Refusals.occupied Refusals.clashes Refusals.overlaps Refusals.inForceNeeds Refusals.stillNeeded Refusals.own Refusals.conditions Refusals.answer Effects.effect Plan.planLine Plan.planNumber Plan.isHead Plan.isPlace Plan.isGate Plan.gateOn Plan.areGates Plan.gatesOn Plan.isPlan Plan.openBoard Journal.journalLine Journal.lineAfter Step.after Step.allotted
+cases = record { journal = refl; e7 = refl; e8 = refl; e9 = refl; e10 = refl }

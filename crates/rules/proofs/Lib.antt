@@ -1,0 +1,14 @@
+-- The theorems.
+pub mod Cases
+pub mod Answers
+pub mod Accepted
+pub mod Once
+pub mod Opening
+pub mod Follows
+pub mod Claims
+pub mod Recording
+pub mod Granting
+pub mod Moving
+pub mod Safety
+pub mod Equality
+pub mod Lines

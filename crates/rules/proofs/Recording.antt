@@ -1,0 +1,332 @@
+-- Demand 3, call by call: the calls that put nothing more in force (REQUEST, WITHDRAW, AGREE, BLOCK, UNBLOCK, CLEAR, HAND OVER, FULFIL).
+-- Each keeps two things: the board follows the reckoning, and the reckoning is safe. Assumes nothing.
+use Prim.Native.Nat.{ℕ, suc, _≤_}
+use native.Mathlib.Omega.{arith}
+use mathlib.Core.Path.{_≡_, refl, sym, ap, subst, _∙_}
+use mathlib.Core.Logic.{_⊎_, inl, inr, ⊎-elim}
+use mathlib.Core.Bool.{Bool, true, false, cond, not, _&&_, false≢true, true≢false}
+use mathlib.Core.List.{List, [], _∷_, Memᴰ·append-left, List·Memᴰ·append-cases, List·Memᴰ·eq-of-singleton}
+use lib.Dec.{eqb, ltb}
+use borrow.Author.Tests.{eqb-true, eqb-false}
+use Rattle.lists.specs.Search.{any, change}
+use Rattle.lists.proofs.Tests.{truth, told, shown, not-no, or-cases, and-r}
+use Rattle.lists.proofs.Search.{Member, any-no, change-each}
+use Rattle.lists.proofs.Distinct.{Taken, taken-change}
+use Rattle.portions.specs.Sets.{has, run, insert, remove, isOrIn, isNotAndIn}
+use Rattle.portions.proofs.Laws.{has-setOf, run-in, in-run}
+use Rattle.rules.specs.declared.AuthorityNo.{AuthorityNo}
+use Rattle.rules.specs.declared.GateNo.{GateNo}
+use Rattle.rules.specs.declared.Kind.{Kind}
+use Rattle.rules.specs.declared.Kind.the-variants.{Lpa, Toa, Twa}
+use Rattle.rules.specs.declared.Gate.{Gate}
+use Rattle.rules.specs.declared.Authority.{Authority}
+use Rattle.rules.specs.declared.Train.{Train}
+use Rattle.rules.specs.declared.Seven.{Seven}
+use Rattle.rules.specs.declared.Call.{Call}
+use Rattle.rules.specs.declared.Call.the-variants.{Request, Withdraw, Agree, Block, Unblock, Clear, HandOver, Fulfil}
+use Rattle.rules.specs.Board.{Board, gateAt, isToa, inForce, workersOn, authorityNo, trainNo, live, authority, needs, withAuthorities, ended}
+use Rattle.rules.specs.Refusals.{notLive, stillNeeded, inForceNeeds, own}
+use Rattle.rules.specs.Effects.{requested, withSite, withOfficer, withAgreed, withAuthority, isWith, freed, effect}
+use Rattle.rules.specs.Call.{authorityOf}
+use Rattle.rules.specs.Reckoning as Reckoning
+use Rattle.rules.specs.Reckoning.{Reckoned, put, asRequested, asForced, asSited, asAgreed, reckon}
+use Rattle.rules.specs.Claim.{In, Forced, Safe}
+use Rattle.rules.proofs.Answers.{conditionAt}
+use Rattle.rules.proofs.Accepted.{Accepted}
+use Rattle.rules.proofs.Follows.{put-same, put-other, put-all, Held, Placed, IsToa, Follows, authority-there, ended-member, there-ended, follows-amended, follows-unreckoned, follows-ended, follows-trains}
+use Rattle.rules.proofs.Claims.{quiet-same, small-same, safe-less, safe-quieter}
+
+-- what an accepted call keeps
+pub record Keeps (b : Board) (r : Reckoning.Reckoning) (c : Call) : Type 0 where
+  pub follows : Follows (effect b c) (reckon (b .gates) r c)
+  pub safe : Safe (b .gates) (reckon (b .gates) r c)
+
+module _ (b : Board) (r : Reckoning.Reckoning) (F : Follows b r) where
+  -- ---- what is known of the authority that a call names, and of one that is reckoned in force
+
+  pub here : (n : ℕ) → live b n ≡ true → Held (r .requests) (r .authority n) (authority b n)
+  here n l =
+      let w = authority-there b n l in
+      subst (λ (k : ℕ). Held (r .requests) (r .authority k) (authority b n)) (w .1) (F .held (authority b n) (w .0))
+
+  pub there : (n : ℕ) → live b n ≡ true → Taken authorityNo (b .authorities) n
+  there n l = (authority b n, authority-there b n l .0, authority-there b n l .1)
+
+  pub is-live : (n : ℕ) → notLive b n ≡ false → live b n ≡ true
+  unfolding notLive
+  is-live n h = not-no (live b n) h
+
+  pub held-there : (n : ℕ) → Forced (r .authority) n → (a : Authority) × Member a (b .authorities) × (authorityNo a ≡ n) × Held (r .requests) (r .authority n) a
+  held-there n f =
+      let (a, m, e) = F .there n f in
+      (a, m, e, subst (λ (k : ℕ). Held (r .requests) (r .authority k) a) e (F .held a m))
+
+  -- a pending authority isn't reckoned in force
+  pub pending : (n : ℕ) → live b n ≡ true → inForce (authority b n) ≡ false → Forced (r .authority) n → ⊥
+  pending n l e f = true≢false (sym f ∙ here n l .force ∙ e)
+
+-- an authority that stays as it is, but for what is given
+pub held-anew : {requests : ℕ} (x y : Reckoned) (a c : Authority) → Held requests x a
+    → authorityNo c ≡ authorityNo a → c .kind ≡ a .kind → c .limits ≡ a .limits
+    → y .kind ≡ x .kind → y .first ≡ x .first → y .last ≡ x .last
+    → y .inForce ≡ inForce c → (inForce c ≡ true → y .workersOn ≡ workersOn c) → ((c .agreed .0 ≡ 0 → ⊥) → y .agreed ≡ c .agreed .0)
+    → Held requests y c
+held-anew x y a c h n k l ky fy ly f v g = record {
+  positive = omega (arith, h .positive);
+  allotted = omega (arith, h .allotted);
+  kind = ky ∙ h .kind ∙ sym k;
+  into = λ p e. let i = h .into p (sym (ap (has p) l) ∙ e) in omega arith;
+  from = λ p i. ap (has p) l ∙ h .from p (omega arith);
+  last = omega (arith, h .last);
+  force = f;
+  site = v;
+  agreed = g;
+}
+
+pub held-sited : {requests : ℕ} (x : Reckoned) (on : Bool) (a : Authority) → Held requests x a → Held requests (asSited on x) (withSite on a)
+held-sited x on a h = held-anew x (asSited on x) a (withSite on a) h refl refl refl refl refl refl (h .force) (λ e. refl) (h .agreed)
+
+module _ (b : Board) (r : Reckoning.Reckoning) (F : Follows b r) (S : Safe (b .gates) r) (s : Seven) where
+  -- ---- REQUEST
+
+  pub keeps-request : (kind : Kind) (first last officer : ℕ) → Accepted b s (Request kind first last officer) → Keeps b r (Request kind first last officer)
+  unfolding effect reckon
+  keeps-request kind first last officer ok = record {
+    follows =
+        record {
+          requests = ap suc (F .requests);
+          portions = F .portions;
+          held = λ a m. ⊎-elim (old-held a) (λ e. is-new a (List·Memᴰ·eq-of-singleton e)) (List·Memᴰ·append-cases (b .authorities) m);
+          toa = λ a m z. ⊎-elim (λ k. old-toa a k z) (λ e. absurd (z (ap (λ (o : Authority). o .agreed .0) (List·Memᴰ·eq-of-singleton e)))) (List·Memᴰ·append-cases (b .authorities) m);
+          there = λ m f. let (a, k, e) = F .there m (was-forced m f) in (a, Memᴰ·append-left (fresh ∷ []) k, e);
+          placed = F .placed;
+          runs = F .runs;
+          blocks = F .blocks;
+        };
+    safe = safe-quieter (b .gates) r S n n x (λ f. absurd (unused f));
+  }
+    where
+      n : ℕ
+      n = suc (r .requests)
+
+      x : Reckoned
+      x = asRequested kind first last (r .authority n)
+
+      fresh : Authority
+      fresh = requested (suc (b .last)) kind (run first last) officer
+
+      unused : Forced (r .authority) n → ⊥
+      unused f =
+          let (a, m, e) = F .there n f in
+          omega (arith, F .held a m .allotted, e)
+
+      was-forced : (m : ℕ) → Forced (put n x (r .authority)) m → Forced (r .authority) m
+      was-forced = put-all (λ (m : ℕ) (y : Reckoned). y .inForce ≡ true → Forced (r .authority) m) n x (r .authority) (λ f. f) (λ m ne f. f)
+
+      new-held : Held n x fresh
+      new-held = record {
+        positive = omega arith;
+        allotted = omega (arith, F .requests);
+        kind = refl;
+        into = λ p e. in-run first last p e;
+        from = λ p i. run-in first last p (i .0) (i .1) (omega (arith, ok .ranges, F .portions));
+        last = omega (arith, ok .ranges, F .portions);
+        force = ⊎-elim (λ f. absurd (unused f)) (λ e. e) (truth (r .authority n .inForce));
+        site = λ e. absurd (false≢true e);
+        agreed = λ z. absurd (z refl);
+      }
+
+      is-new : (a : Authority) → a ≡ fresh → Held n (put n x (r .authority) (authorityNo a)) a
+      is-new a e =
+          let at : put n x (r .authority) (suc (b .last)) ≡ x = ap (put n x (r .authority)) (ap suc (F .requests)) ∙ put-same n x (r .authority) in
+          subst (λ (o : Authority). Held n (put n x (r .authority) (authorityNo o)) o) (sym e) (subst (λ (y : Reckoned). Held n y fresh) (sym at) new-held)
+
+      old-held : (a : Authority) → Member a (b .authorities) → Held n (put n x (r .authority) (authorityNo a)) a
+      old-held a m =
+          let h = F .held a m in
+          subst (λ (y : Reckoned). Held n y a) (sym (put-other n x (r .authority) (authorityNo a) (λ e. omega (arith, h .allotted))))
+          (record {
+            positive = h .positive;
+            allotted = omega (arith, h .allotted);
+            kind = h .kind;
+            into = h .into;
+            from = h .from;
+            last = h .last;
+            force = h .force;
+            site = h .site;
+            agreed = h .agreed;
+          })
+
+      old-toa : (a : Authority) → Member a (b .authorities) → IsToa n (put n x (r .authority)) (a .agreed .0)
+      old-toa a m z =
+          let t = F .toa a m z in
+          (ap (λ (y : Reckoned). y .kind) (put-other n x (r .authority) (a .agreed .0) (λ e. omega (arith, t .1))) ∙ t .0, omega (arith, t .1))
+
+  -- ---- WITHDRAW and HAND OVER: nothing is reckoned
+
+  pub keeps-withdraw : (n : AuthorityNo) (officer : ℕ) → Accepted b s (Withdraw n officer) → Keeps b r (Withdraw n officer)
+  unfolding effect reckon own conditionAt
+  keeps-withdraw n officer ok = record {
+    follows =
+        record {
+          requests = F .requests;
+          portions = F .portions;
+          held = λ a m. F .held a (ended-member (n .0) (b .authorities) a m .0);
+          toa = λ a m. F .toa a (ended-member (n .0) (b .authorities) a m .0);
+          there =
+              λ m f. there-ended (n .0) (b .authorities) m
+              (λ e. pending b r F (n .0) (is-live b r F (n .0) (ok .ok 5)) (ok .ok 6) (subst (Forced (r .authority)) e f)) (F .there m f);
+          placed = F .placed;
+          runs = F .runs;
+          blocks = F .blocks;
+        };
+    safe = S;
+  }
+
+  pub keeps-handOver : (n : AuthorityNo) (out into : ℕ) → Keeps b r (HandOver n out into)
+  unfolding effect reckon
+  keeps-handOver n out into = record {
+    follows =
+        follows-unreckoned b r F (n .0) (withOfficer into) (λ a. refl) (λ a. refl)
+        (λ a x h. held-anew x x a (withOfficer into a) h refl refl refl refl refl refl (h .force) (h .site) (h .agreed));
+    safe = S;
+  }
+
+  -- ---- AGREE
+
+  pub keeps-agree : (toa twa : AuthorityNo) (officer : ℕ) → Accepted b s (Agree toa twa officer) → Keeps b r (Agree toa twa officer)
+  unfolding effect reckon own conditionAt
+  keeps-agree toa twa officer ok = record {
+    follows =
+        follows-amended b r F (twa .0) (withAgreed toa) (asAgreed (toa .0) x) (λ a. refl) refl
+        (λ a h. held-anew x (asAgreed (toa .0) x) a (withAgreed toa a) h refl refl refl refl refl refl (h .force) (h .site) (λ z. refl))
+        (λ a m z. is-toa) (λ f. there b r F (twa .0) l2);
+    safe = safe-quieter (b .gates) r S (r .requests) (twa .0) (asAgreed (toa .0) x) (λ f. absurd (pending b r F (twa .0) l2 still f));
+  }
+    where
+      x : Reckoned
+      x = r .authority (twa .0)
+
+      l1 : live b (toa .0) ≡ true
+      l1 = is-live b r F (toa .0) (search (told, ok .ok 5))
+
+      l2 : live b (twa .0) ≡ true
+      l2 = is-live b r F (twa .0) (search (told, ok .ok 5))
+
+      still : inForce (authority b (twa .0)) ≡ false
+      still = search (told, ok .ok 6)
+
+      toa-kind : (k : Kind) → isToa k ≡ true → k ≡ Toa
+      toa-kind Lpa e = absurd (false≢true e)
+      toa-kind Toa e = refl
+      toa-kind Twa e = absurd (false≢true e)
+
+      is-toa : (r .authority (toa .0) .kind ≡ Toa) × (toa .0 ≤ r .requests)
+      is-toa =
+          let k : isToa (authority b (toa .0) .kind) ≡ true = search (told, ok .ok 6) in (
+            here b r F (toa .0) l1 .kind ∙ toa-kind (authority b (toa .0) .kind) k,
+            subst (λ (k : ℕ). k ≤ r .requests) (authority-there b (toa .0) l1 .1) (here b r F (toa .0) l1 .allotted),
+          )
+
+  -- ---- CLEAR and FULFIL
+
+  pub keeps-clear : (n : AuthorityNo) (officer : ℕ) → Accepted b s (Clear n officer) → Keeps b r (Clear n officer)
+  unfolding effect reckon own conditionAt
+  keeps-clear n officer ok = record {
+    follows =
+        follows-amended b r F (n .0) (withSite false) (asSited false (r .authority (n .0))) (λ a. refl) refl
+        (held-sited (r .authority (n .0)) false) (λ a m. F .toa a m) (λ f. there b r F (n .0) (is-live b r F (n .0) (ok .ok 5)));
+    safe =
+        safe-quieter (b .gates) r S (r .requests) (n .0) (asSited false (r .authority (n .0)))
+        (λ f. record { force = f; kind = refl; first = refl; last = refl; agreed = refl; site = λ e. absurd (false≢true e) });
+  }
+
+  pub keeps-fulfil : (n : AuthorityNo) (officer assurances : ℕ) → Keeps b r (Fulfil n officer assurances)
+  unfolding effect reckon
+  keeps-fulfil n officer assurances = record {
+    follows =
+        follows-trains (withAuthorities (ended (n .0) (b .authorities)) b)
+        (Reckoning.withAuthorities (put (n .0) (asForced false (r .authority (n .0))) (r .authority)) r) (follows-ended b r F (n .0))
+        (freed (n .0) (b .trains)) (r .train)
+        (change-each (λ (t : Train). Placed (r .train (trainNo t)) t) (isWith (n .0)) (withAuthority (authorityOf 0)) (b .trains) (λ t m e. F .placed t m)
+        (λ t m e. let h = F .placed t m in record { onBoard = h .onBoard; head = h .head; rear = h .rear; under = λ z. absurd (z refl) }))
+        (λ t on. taken-change trainNo (isWith (n .0)) (withAuthority (authorityOf 0)) (λ t. refl) (b .trains) t (F .runs t on));
+    safe = safe-quieter (b .gates) r S (r .requests) (n .0) (asForced false (r .authority (n .0))) (λ f. absurd (false≢true f));
+  }
+
+  -- ---- BLOCK and UNBLOCK
+
+  -- a set with g in it has g and what it had; one without g has what it had but g
+  in-insert : (g h set : ℕ) → has h (insert g set) ≡ true → (h ≡ g) ⊎ (has h set ≡ true)
+  unfolding insert
+  in-insert g h set e =
+      ⊎-elim (λ k. inl (eqb-true h g k)) inr
+      (or-cases (eqb h g) (has h set) (and-r (ltb h 64) (isOrIn g set h) (sym (has-setOf 64 (isOrIn g set) h) ∙ e)))
+
+  in-remove : (g h set : ℕ) → has h (remove g set) ≡ true → (h ≡ g → ⊥) × (has h set ≡ true)
+  unfolding remove
+  in-remove g h set e =
+      let k : (ltb h 64 && isNotAndIn g set h) ≡ true = sym (has-setOf 64 (isNotAndIn g set) h) ∙ e in
+      (eqb-false h g (search (told, k)), search (told, k))
+
+  pub keeps-block : (g : GateNo) → Keeps b r (Block g)
+  unfolding effect reckon
+  keeps-block g = record {
+    follows =
+        record {
+          requests = F .requests;
+          portions = F .portions;
+          held = F .held;
+          toa = F .toa;
+          there = F .there;
+          placed = F .placed;
+          runs = F .runs;
+          blocks =
+              λ h e. ⊎-elim (λ (q : h ≡ g .0). ap (put (g .0) true (r .blocked)) q ∙ put-same (g .0) true (r .blocked)) (λ k. more h (F .blocks h k))
+              (in-insert (g .0) h (b .blocks) e);
+        };
+    safe =
+        safe-less (b .gates) (Reckoning.withBlocked (put (g .0) true (r .blocked)) r) r
+        (λ m f. quiet-same (r .authority m) f) (λ t on. small-same (r .train t) on) more S;
+  }
+    where
+      more : (h : ℕ) → r .blocked h ≡ true → put (g .0) true (r .blocked) h ≡ true
+      more = put-all (λ (h : ℕ) (y : Bool). r .blocked h ≡ true → y ≡ true) (g .0) true (r .blocked) (λ e. refl) (λ h ne e. e)
+
+  pub keeps-unblock : (g : GateNo) → Accepted b s (Unblock g) → Keeps b r (Unblock g)
+  unfolding effect reckon own conditionAt stillNeeded inForceNeeds needs
+  keeps-unblock g ok = record {
+    follows =
+        record {
+          requests = F .requests;
+          portions = F .portions;
+          held = F .held;
+          toa = F .toa;
+          there = F .there;
+          placed = F .placed;
+          runs = F .runs;
+          blocks = λ h e. let k = in-remove (g .0) h (b .blocks) e in put-other (g .0) false (r .blocked) h (k .0) ∙ F .blocks h (k .1);
+        };
+    safe =
+        record {
+          apart = S .apart;
+          piloted = S .piloted;
+          untouched = S .untouched;
+          protected = λ n h f l i o. put-other (g .0) false (r .blocked) h (λ e. unneeded n h e f i o) ∙ S .protected n h f l i o;
+        };
+  }
+    where
+      gate : Gate
+      gate = gateAt (b .gates) (g .0)
+
+      -- 16: no authority in force needs the gate
+      unneeded : (n h : ℕ) → h ≡ g .0 → Forced (r .authority) n → In (r .authority n) (gateAt (b .gates) h .to)
+          → (In (r .authority n) (gateAt (b .gates) h .from) → ⊥) → ⊥
+      unneeded n h same f i o =
+          let (a, m, e, k) = held-there b r F n f in
+          let none : inForceNeeds gate a ≡ false = any-no (inForceNeeds gate) (b .authorities) (ok .ok 16) a m in
+          let force : inForce a ≡ true = sym (k .force) ∙ f in
+          let to : has (gate .to) (a .limits) ≡ true = k .from (gate .to) (subst (λ (j : ℕ). In (r .authority n) (gateAt (b .gates) j .to)) same i) in
+          let need : (has (gate .to) (a .limits) && not (has (gate .from) (a .limits))) ≡ false = search (shown, none) in
+          let from : not (has (gate .from) (a .limits)) ≡ false = search (shown, need) in
+          o (subst (λ (j : ℕ). In (r .authority n) (gateAt (b .gates) j .from)) (sym same) (k .into (gate .from) (search (told, from))))

@@ -1,0 +1,270 @@
+-- What the register holds (01, "Track and gates" and "What the register holds"). Assumes nothing.
+use Prim.Native.Nat.{ℕ}
+use mathlib.Core.Path.{_≡_}
+use mathlib.Core.Bool.{Bool, true, false, not, _&&_, _||_}
+use mathlib.Core.List.{List, [], List·Memᴰ}
+use lib.ListN.{getD}
+use lib.Dec.{eqb}
+use Rattle.lists.specs.Search.{any, first, keep, change}
+use Rattle.lists.specs.Prefix.{prefix}
+use Rattle.portions.specs.Sets.{has}
+use Rattle.rules.specs.declared.Kind.{Kind}
+use Rattle.rules.specs.declared.Kind.the-variants.{Lpa, Toa, Twa}
+use Rattle.rules.specs.declared.Gate.{Gate}
+use Rattle.rules.specs.declared.Authority.{Authority}
+use Rattle.rules.specs.declared.Train.{Train}
+use Rattle.rules.specs.declared.Register.{Register}
+
+-- ---- what a register stands for
+
+-- A board: P portions, the gates in order, the last stamp, the last number, the blocked gates as a set, live authorities and trains.
+-- The order in which authorities and trains are held is free in 01; here a new one goes to the end and the order is kept.
+-- The agreed TOA of a TWA in force is free in 01; here it stays as recorded until the TWA ends.
+pub record Board : Type 0 where
+  pub portions : ℕ
+  pub gates : List Gate
+  pub day : ℕ
+  pub time : ℕ
+  pub last : ℕ
+  pub blocks : ℕ
+  pub authorities : List Authority
+  pub trains : List Train
+
+-- the board that a register stands for; places of its arrays past the counts are not looked at
+unfoldable pub boardOf : Register → Board
+boardOf r = record {
+  portions = r .portions;
+  gates = prefix (r .«gate_count») (r .gates);
+  day = r .day;
+  time = r .time;
+  last = r .last;
+  blocks = r .blocks;
+  authorities = prefix (r .live) (r .authorities);
+  trains = prefix (r .running) (r .trains);
+}
+
+-- "A freshly opened board has no authority, no train, no block, last stamp day 0 time 0, last number 0."
+unfoldable pub opened : ℕ → List Gate → Board
+opened portions gates = record {
+  portions = portions;
+  gates = gates;
+  day = 0;
+  time = 0;
+  last = 0;
+  blocks = 0;
+  authorities = [];
+  trains = [];
+}
+
+-- "The closed board is the same with P = G = 0."
+unfoldable pub closed : Board
+closed = opened 0 []
+
+-- ---- places and gates
+
+-- "99 in either place means outside the board"
+abbrev pub outside : ℕ
+outside = 99
+
+abbrev pub isOutside : ℕ → Bool
+isOutside place = eqb place 99
+
+-- no gate, no authority, no train: what a search gives where there is none
+abbrev pub noGate : Gate
+noGate = record { from = 0; to = 0; kind = 0 }
+
+abbrev pub noAuthority : Authority
+noAuthority = record {
+  number = record { 0 = 0 };
+  kind = Lpa;
+  limits = 0;
+  officer = 0;
+  «in_force» = false;
+  «workers_on» = false;
+  agreed = record { 0 = 0 };
+}
+
+abbrev pub noTrain : Train
+noTrain = record { number = record { 0 = 0 }; head = 0; rear = 0; with = record { 0 = 0 } }
+
+-- the gate with that number
+abbrev pub gateAt : List Gate → ℕ → Gate
+gateAt gates g = getD gates g noGate
+
+-- ---- authorities and trains
+
+-- "a kind (1 LPA, 2 TOA, 3 TWA; 1 and 2 are exclusive)"
+abbrev pub kindNo : Kind → ℕ
+kindNo Lpa = 1
+kindNo Toa = 2
+kindNo Twa = 3
+
+abbrev pub exclusive : Kind → Bool
+exclusive Lpa = true
+exclusive Toa = true
+exclusive Twa = false
+
+abbrev pub isToa : Kind → Bool
+isToa Lpa = false
+isToa Toa = true
+isToa Twa = false
+
+abbrev pub isTwa : Kind → Bool
+isTwa Lpa = false
+isTwa Toa = false
+isTwa Twa = true
+
+-- "a stage (pending or in force), a site (workers on, or clear)"
+abbrev pub inForce : Authority → Bool
+inForce a = a .«in_force»
+
+abbrev pub workersOn : Authority → Bool
+workersOn a = a .«workers_on»
+
+-- the number of an authority, and of a train
+abbrev pub authorityNo : Authority → ℕ
+authorityNo a = a .number .0
+
+abbrev pub trainNo : Train → ℕ
+trainNo t = t .number .0
+
+abbrev pub isAuthority : ℕ → Authority → Bool
+isAuthority n a = eqb (authorityNo a) n
+
+abbrev pub isTrain : ℕ → Train → Bool
+isTrain n t = eqb (trainNo t) n
+
+-- an authority with that number is live, and which it is
+unfoldable pub live : Board → ℕ → Bool
+live b n = any (isAuthority n) (b .authorities)
+
+unfoldable pub authority : Board → ℕ → Authority
+authority b n = first (isAuthority n) noAuthority (b .authorities)
+
+-- a train with that number is on the board, and which it is
+unfoldable pub onBoard : Board → ℕ → Bool
+onBoard b n = any (isTrain n) (b .trains)
+
+unfoldable pub train : Board → ℕ → Train
+train b n = first (isTrain n) noTrain (b .trains)
+
+-- "It touches a portion that holds its head or rear; outside is no portion." Of a set of portions, and of one portion.
+unfoldable pub touches : ℕ → Train → Bool
+touches limits t = has (t .head) limits || has (t .rear) limits
+
+unfoldable pub touchesPortion : ℕ → Train → Bool
+touchesPortion p t = not (isOutside p) && (eqb (t .head) p || eqb (t .rear) p)
+
+-- "An authority needs each gate whose "to" is in its limits and whose "from" isn't."
+unfoldable pub needs : ℕ → Gate → Bool
+needs limits gate = has (gate .to) limits && not (has (gate .from) limits)
+
+-- ---- a board changed in one thing
+
+abbrev pub withAuthorities : List Authority → Board → Board
+withAuthorities xs b = record {
+  portions = b .portions;
+  gates = b .gates;
+  day = b .day;
+  time = b .time;
+  last = b .last;
+  blocks = b .blocks;
+  authorities = xs;
+  trains = b .trains;
+}
+
+abbrev pub withTrains : List Train → Board → Board
+withTrains ts b = record {
+  portions = b .portions;
+  gates = b .gates;
+  day = b .day;
+  time = b .time;
+  last = b .last;
+  blocks = b .blocks;
+  authorities = b .authorities;
+  trains = ts;
+}
+
+abbrev pub withBlocks : ℕ → Board → Board
+withBlocks blocks b = record {
+  portions = b .portions;
+  gates = b .gates;
+  day = b .day;
+  time = b .time;
+  last = b .last;
+  blocks = blocks;
+  authorities = b .authorities;
+  trains = b .trains;
+}
+
+abbrev pub withLast : ℕ → Board → Board
+withLast n b = record {
+  portions = b .portions;
+  gates = b .gates;
+  day = b .day;
+  time = b .time;
+  last = n;
+  blocks = b .blocks;
+  authorities = b .authorities;
+  trains = b .trains;
+}
+
+abbrev pub withStamp : ℕ → ℕ → Board → Board
+withStamp day time b = record {
+  portions = b .portions;
+  gates = b .gates;
+  day = day;
+  time = time;
+  last = b .last;
+  blocks = b .blocks;
+  authorities = b .authorities;
+  trains = b .trains;
+}
+
+-- the authorities with n changed by f, and with n gone; the same for trains
+abbrev pub amended : ℕ → (Authority → Authority) → List Authority → List Authority
+amended n f xs = change (isAuthority n) f xs
+
+abbrev pub isNotAuthority : ℕ → Authority → Bool
+isNotAuthority n a = not (isAuthority n a)
+
+abbrev pub ended : ℕ → List Authority → List Authority
+ended n xs = keep (isNotAuthority n) xs
+
+abbrev pub moved : ℕ → (Train → Train) → List Train → List Train
+moved n f ts = change (isTrain n) f ts
+
+abbrev pub isNotTrain : ℕ → Train → Bool
+isNotTrain n t = not (isTrain n t)
+
+abbrev pub gone : ℕ → List Train → List Train
+gone n ts = keep (isNotTrain n) ts
+
+-- ---- 01's equality of registers
+
+-- "the agreed TOA counts only while its TWA is pending"
+pub record SameAuthority (x y : Authority) : Type 0 where
+  pub number : authorityNo x ≡ authorityNo y
+  pub kind : x .kind ≡ y .kind
+  pub limits : x .limits ≡ y .limits
+  pub officer : x .officer ≡ y .officer
+  pub stage : inForce x ≡ inForce y
+  pub site : workersOn x ≡ workersOn y
+  pub agreed : isTwa (x .kind) ≡ true → inForce x ≡ false → x .agreed .0 ≡ y .agreed .0
+
+-- each element of one list has its like in the other
+abbrev pub EachIn : {A : Type 0} → (A → A → Type 0) → List A → List A → Type 0
+EachIn {A} Like xs ys = (x : A) → List·Memᴰ x xs → (y : A) × List·Memᴰ y ys × Like x y
+
+-- "Two registers are equal when plan, last stamp, last number, blocks, live authorities and trains are equal as sets"
+pub record Same (b c : Board) : Type 0 where
+  pub portions : b .portions ≡ c .portions
+  pub gates : b .gates ≡ c .gates
+  pub day : b .day ≡ c .day
+  pub time : b .time ≡ c .time
+  pub last : b .last ≡ c .last
+  pub blocks : b .blocks ≡ c .blocks
+  pub authorities : EachIn SameAuthority (b .authorities) (c .authorities)
+  pub authorities′ : EachIn SameAuthority (c .authorities) (b .authorities)
+  pub trains : EachIn (λ x y. x ≡ y) (b .trains) (c .trains)
+  pub trains′ : EachIn (λ x y. x ≡ y) (c .trains) (b .trains)

@@ -1,0 +1,123 @@
+-- The seven numbers of a call, what its fields are called, and their ranges (01, "The thirteen calls"). Assumes nothing.
+use Prim.Native.Nat.{ℕ, _/_, _%_}
+use mathlib.Core.Bool.{Bool, cond, _&&_}
+use mathlib.Core.List.{List, [], _∷_}
+use lib.ListN.{length, getD}
+use lib.Dec.{eqb, leb, ltb}
+use Rattle.rules.specs.declared.AuthorityNo.{AuthorityNo}
+use Rattle.rules.specs.declared.TrainNo.{TrainNo}
+use Rattle.rules.specs.declared.GateNo.{GateNo}
+use Rattle.rules.specs.declared.Kind.{Kind}
+use Rattle.rules.specs.declared.Kind.the-variants.{Lpa, Toa, Twa}
+use Rattle.rules.specs.declared.Seven.{Seven}
+use Rattle.rules.specs.declared.Call.{Call}
+use Rattle.rules.specs.declared.Call.the-variants.{NoSuchCall, BadField, Request, Withdraw, Agree, Block, Unblock, Grant, Clear, Reoccupy, HandOver, Fulfil, Continue, Move, Passed}
+use Rattle.rules.specs.declared.Field.{Field}
+use Rattle.rules.specs.declared.Field.the-variants as Field
+use Rattle.rules.specs.declared.Form.{Form}
+
+-- ---- ranges
+
+abbrev pub between : ℕ → ℕ → ℕ → Bool
+between low high n = leb low n && leb n high
+
+-- "Day is 0 to 9999, time hhmm on the 24-hour clock."
+unfoldable pub isDay : ℕ → Bool
+isDay day = leb day 9999
+
+unfoldable pub isTime : ℕ → Bool
+isTime time = ltb (time / 100) 24 && ltb (time % 100) 60
+
+-- the value of a field is in its range, on a board of P portions and G gates; `next` is the value of the field after it
+unfoldable pub inRange : ℕ → ℕ → Field → ℕ → ℕ → Bool
+-- "unused fields are 0"
+inRange P G Field.Unused value next = eqb value 0
+-- "kind 1 to 3"
+inRange P G Field.Kind value next = between 1 3 value
+-- "first ≤ last < P": the first portion, with the last one after it
+inRange P G Field.First value next = leb value next
+inRange P G Field.Last value next = ltb value P
+-- "officer 1 to 999"
+inRange P G Field.Officer value next = between 1 999 value
+-- "authority and train 1 to 9999"
+inRange P G Field.Authority value next = between 1 9999 value
+inRange P G Field.Train value next = between 1 9999 value
+-- "gate below G"
+inRange P G Field.Gate value next = ltb value G
+-- "assurances 0 to 7"
+inRange P G Field.Assurances value next = leb value 7
+-- "In MOVE authority and officer may be 0."
+inRange P G Field.AuthorityOrNone value next = leb value 9999
+inRange P G Field.OfficerOrNone value next = leb value 999
+
+-- ---- the table of calls
+
+abbrev pub authorityOf : ℕ → AuthorityNo
+authorityOf n = record { 0 = n }
+
+abbrev pub trainOf : ℕ → TrainNo
+trainOf n = record { 0 = n }
+
+abbrev pub gateOf : ℕ → GateNo
+gateOf n = record { 0 = n }
+
+-- the kind with that number, 1 to 3; no REQUEST with another is accepted
+abbrev pub kindOf : ℕ → Kind
+kindOf n = getD (Twa ∷ Lpa ∷ Toa ∷ []) n Twa
+
+abbrev pub form : Field → Field → Field → Field → Form
+form a b c d = record { a = a; b = b; c = c; d = d }
+
+-- an entry of the table: the kinds of the four fields, and the call with its fields named
+pub record Entry : Type 0 where
+  pub form : Form
+  pub named : Seven → Call
+
+abbrev pub entry : Form → (Seven → Call) → Entry
+entry form named = record { form = form; named = named }
+
+-- the calls 1 to 13 in order
+unfoldable pub calls : List Entry
+calls =
+    entry (form Field.Kind Field.First Field.Last Field.Officer) (λ s. Request (kindOf (s .a)) (s .b) (s .c) (s .d))
+    ∷ entry (form Field.Authority Field.Officer Field.Unused Field.Unused) (λ s. Withdraw (authorityOf (s .a)) (s .b))
+    ∷ entry (form Field.Authority Field.Authority Field.Officer Field.Unused) (λ s. Agree (authorityOf (s .a)) (authorityOf (s .b)) (s .c))
+    ∷ entry (form Field.Gate Field.Unused Field.Unused Field.Unused) (λ s. Block (gateOf (s .a)))
+    ∷ entry (form Field.Gate Field.Unused Field.Unused Field.Unused) (λ s. Unblock (gateOf (s .a)))
+    ∷ entry (form Field.Authority Field.Officer Field.Unused Field.Unused) (λ s. Grant (authorityOf (s .a)) (s .b))
+    ∷ entry (form Field.Authority Field.Officer Field.Unused Field.Unused) (λ s. Clear (authorityOf (s .a)) (s .b))
+    ∷ entry (form Field.Authority Field.Officer Field.Unused Field.Unused) (λ s. Reoccupy (authorityOf (s .a)) (s .b))
+    ∷ entry (form Field.Authority Field.Officer Field.Officer Field.Unused) (λ s. HandOver (authorityOf (s .a)) (s .b) (s .c))
+    ∷ entry (form Field.Authority Field.Officer Field.Assurances Field.Unused) (λ s. Fulfil (authorityOf (s .a)) (s .b) (s .c))
+    ∷ entry (form Field.Authority Field.Authority Field.Officer Field.Officer) (λ s. Continue (authorityOf (s .a)) (authorityOf (s .b)) (s .c) (s .d))
+    ∷ entry (form Field.Train Field.Gate Field.AuthorityOrNone Field.OfficerOrNone) (λ s. Move (trainOf (s .a)) (gateOf (s .b)) (authorityOf (s .c)) (s .d))
+    ∷ entry (form Field.Train Field.Unused Field.Unused Field.Unused) (λ s. Passed (trainOf (s .a)))
+    ∷ []
+
+abbrev pub noEntry : Entry
+noEntry = entry (form Field.Unused Field.Unused Field.Unused Field.Unused) (λ s. NoSuchCall)
+
+-- the entry of the call with that number; 0 and the numbers beyond the table are no call's
+unfoldable pub entryOf : ℕ → Entry
+entryOf call = getD (noEntry ∷ calls) call noEntry
+
+unfoldable pub isCall : ℕ → Bool
+isCall call = between 1 (length calls) call
+
+-- the call that the seven numbers are, its fields named
+unfoldable pub named : Seven → Call
+named s = entryOf (s .call) .named s
+
+-- the four fields are in their ranges
+unfoldable pub inForm : ℕ → ℕ → Form → Seven → Bool
+inForm P G f s =
+    inRange P G (f .a) (s .a) (s .b) && inRange P G (f .b) (s .b) (s .c) && inRange P G (f .c) (s .c) (s .d)
+    && inRange P G (f .d) (s .d) 0
+
+-- the stamp and the fields are in their ranges
+unfoldable pub inRanges : ℕ → ℕ → Seven → Bool
+inRanges P G s = isDay (s .day) && isTime (s .time) && inForm P G (entryOf (s .call) .form) s
+
+-- the call read off the seven numbers on a board of P portions and G gates, or what is wrong with its number or its fields
+unfoldable pub decoded : ℕ → ℕ → Seven → Call
+decoded P G s = cond (isCall (s .call)) (cond (inRanges P G s) (named s) BadField) NoSuchCall
