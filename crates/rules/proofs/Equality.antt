@@ -2,7 +2,10 @@
 use mathlib.Core.Path.{_≡_, refl, sym, ap, subst, _∙_}
 use mathlib.Core.List.{List}
 use Rattle.rules.specs.declared.Authority.{Authority}
-use Rattle.rules.specs.Board.{Board, isTwa, SameAuthority, EachIn, Same}
+use Rattle.rules.specs.declared.Kind.{Kind}
+use Rattle.rules.specs.declared.Kind.the-variants.{Lpa, Toa, Twa}
+use Rattle.rules.specs.Call.{kindOf}
+use Rattle.rules.specs.Board.{Board, kindNo, isTwa, SameAuthority, EachIn, Same}
 
 same-authority : (a : Authority) → SameAuthority a a
 same-authority a = record { number = refl; kind = refl; limits = refl; officer = refl; stage = refl; site = refl; agreed = λ t f. refl }
@@ -71,3 +74,9 @@ same-trans b c d s t = record {
   trains = each-then (λ x y. x ≡ y) (λ x y z p q. p ∙ q) (b .trains) (c .trains) (d .trains) (s .trains) (t .trains);
   trains′ = each-then (λ x y. x ≡ y) (λ x y z p q. p ∙ q) (d .trains) (c .trains) (b .trains) (t .trains′) (s .trains′);
 }
+
+-- the kinds and 01's numbers for them are one to one
+pub kind-number : (k : Kind) → kindOf (kindNo k) ≡ k
+kind-number Lpa = refl
+kind-number Toa = refl
+kind-number Twa = refl

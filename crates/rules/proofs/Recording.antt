@@ -25,7 +25,7 @@ use Rattle.rules.specs.declared.Seven.{Seven}
 use Rattle.rules.specs.declared.Call.{Call}
 use Rattle.rules.specs.declared.Call.the-variants.{Request, Withdraw, Agree, Block, Unblock, Clear, HandOver, Fulfil}
 use Rattle.rules.specs.Board.{Board, gateAt, isToa, inForce, workersOn, authorityNo, trainNo, live, authority, needs, withAuthorities, ended}
-use Rattle.rules.specs.Refusals.{notLive, stillNeeded, inForceNeeds, own}
+use Rattle.rules.specs.Refusals.{notLive, notToAgree, stillNeeded, inForceNeeds, own}
 use Rattle.rules.specs.Effects.{requested, withSite, withOfficer, withAgreed, withAuthority, isWith, freed, effect}
 use Rattle.rules.specs.Call.{authorityOf}
 use Rattle.rules.specs.Reckoning as Reckoning
@@ -195,7 +195,7 @@ module _ (b : Board) (r : Reckoning.Reckoning) (F : Follows b r) (S : Safe (b .g
   -- ---- AGREE
 
   pub keeps-agree : (toa twa : AuthorityNo) (officer : ℕ) → Accepted b s (Agree toa twa officer) → Keeps b r (Agree toa twa officer)
-  unfolding effect reckon own conditionAt
+  unfolding effect reckon own conditionAt notToAgree
   keeps-agree toa twa officer ok = record {
     follows =
         follows-amended b r F (twa .0) (withAgreed toa) (asAgreed (toa .0) x) (λ a. refl) refl

@@ -67,7 +67,7 @@ abbrev pub outside : ℕ
 outside = 99
 
 abbrev pub isOutside : ℕ → Bool
-isOutside place = eqb place 99
+isOutside place = eqb place outside
 
 -- no gate, no authority, no train: what a search gives where there is none
 abbrev pub noGate : Gate

@@ -1,4 +1,5 @@
--- Demand 3's claim about what is reckoned from a list of calls: by portions, and not by the sets that a register holds. Assumes nothing.
+-- Demand 3's claim about what is reckoned from a list of calls, its four statements in the customer's words: by portions, and not by
+-- the sets that a register holds. Assumes nothing.
 use Prim.Native.Nat.{ℕ, _≤_, _<_}
 use mathlib.Core.Path.{_≡_}
 use mathlib.Core.Logic.{_⊎_}

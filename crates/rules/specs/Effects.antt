@@ -114,7 +114,7 @@ continued old new limits ts = change (isWith old) (continuedWith new limits) ts
 unfoldable pub effect : Board → Call → Board
 effect b NoSuchCall = b
 effect b BadField = b
--- REQUEST: "Numbers are allotted 1, 2, 3 up to 9999 and never reused."; "limits (a first and a last portion and all between)"
+-- REQUEST: "Numbers are allotted 1, 2, 3 up to 9999 and never reused."; "limits (a first and a last portion and all between, held as one set of portions)"
 effect b (Request kind first last officer) =
     withLast (suc (b .last))
     (withAuthorities (b .authorities ++ (requested (suc (b .last)) kind (run first last) officer ∷ [])) b)

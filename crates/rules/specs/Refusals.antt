@@ -45,6 +45,10 @@ notLive b n = not (live b n)
 unfoldable pub notOfficer : Board → ℕ → ℕ → Bool
 notOfficer b n officer = not (eqb (authority b n .officer) officer)
 
+-- 6 stage, of AGREE: "not a TOA in force and a pending TWA"
+unfoldable pub notToAgree : Authority → Authority → Bool
+notToAgree toa twa = not (isToa (toa .kind) && inForce toa && isTwa (twa .kind) && not (inForce twa))
+
 -- 9 full: "32 held, or 9999 allotted"
 unfoldable pub full : Board → Bool
 full b = leb 32 (length (b .authorities)) || leb 9999 (b .last)
@@ -137,102 +141,139 @@ pilot b to = cond (anyE b to) (first (isE to) noAuthority (b .authorities)) (con
 unfoldable pub notPiloted : Board → ℕ → ℕ → ℕ → Bool
 notPiloted b to n officer = not (eqb n (authorityNo (pilot b to)) && eqb officer (pilot b to .officer))
 
--- ---- the conditions of each call, in ascending order. `s` has the call's stamp.
+-- ---- the conditions of each call, in ascending order
 
+-- REQUEST {9}
+abbrev pub requestRefusals : Board → List Refusal
+requestRefusals b =
+    9 when full b
+    ∷ []
+
+-- WITHDRAW {5; 6 not pending; 7}
+abbrev pub withdrawRefusals : Board → ℕ → ℕ → List Refusal
+withdrawRefusals b n officer =
+    5 when notLive b n
+    ∷ 6 when inForce (authority b n)
+    ∷ 7 when notOfficer b n officer
+    ∷ []
+
+-- AGREE {5; 6 not a TOA in force and a pending TWA; 7; 8 that TOA already recorded}
+abbrev pub agreeRefusals : Board → ℕ → ℕ → ℕ → List Refusal
+agreeRefusals b toa twa officer =
+    5 when (notLive b toa || notLive b twa)
+    ∷ 6 when notToAgree (authority b toa) (authority b twa)
+    ∷ 7 when notOfficer b toa officer
+    ∷ 8 when eqb (authority b twa .agreed .0) toa
+    ∷ []
+
+-- BLOCK {8; 10 "gate of kind 4"}
+abbrev pub blockRefusals : Board → ℕ → List Refusal
+blockRefusals b g =
+    8 when has g (b .blocks)
+    ∷ 10 when eqb (gateAt (b .gates) g .kind) 4
+    ∷ []
+
+-- UNBLOCK {8; 16}
+abbrev pub unblockRefusals : Board → ℕ → List Refusal
+unblockRefusals b g =
+    8 when not (has g (b .blocks))
+    ∷ 16 when stillNeeded b g
+    ∷ []
+
+-- GRANT {5; 6 not pending; 7; 11; 12 a train touches the limits; 13}
+abbrev pub grantRefusals : Board → ℕ → ℕ → List Refusal
+grantRefusals b n officer =
+    5 when notLive b n
+    ∷ 6 when inForce (authority b n)
+    ∷ 7 when notOfficer b n officer
+    ∷ 11 when unprotected b (authority b n)
+    ∷ 12 when occupied b (authority b n)
+    ∷ 13 when overlaps b 0 (authority b n)
+    ∷ []
+
+-- CLEAR {5; 6 not in force; 7; 8}
+abbrev pub clearRefusals : Board → ℕ → ℕ → List Refusal
+clearRefusals b n officer =
+    5 when notLive b n
+    ∷ 6 when not (inForce (authority b n))
+    ∷ 7 when notOfficer b n officer
+    ∷ 8 when not (workersOn (authority b n))
+    ∷ []
+
+-- REOCCUPY {5; 6 not in force; 7; 8; "REOCCUPY of a TWA also 12 a train touches the limits"}
+abbrev pub reoccupyRefusals : Board → ℕ → ℕ → List Refusal
+reoccupyRefusals b n officer =
+    5 when notLive b n
+    ∷ 6 when not (inForce (authority b n))
+    ∷ 7 when notOfficer b n officer
+    ∷ 8 when workersOn (authority b n)
+    ∷ 12 when (isTwa (authority b n .kind) && occupied b (authority b n))
+    ∷ []
+
+-- HAND OVER {5; 7 for out; 8 both the same}, "Either stage."
+abbrev pub handOverRefusals : Board → ℕ → ℕ → ℕ → List Refusal
+handOverRefusals b n out into =
+    5 when notLive b n
+    ∷ 7 when notOfficer b n out
+    ∷ 8 when eqb out into
+    ∷ []
+
+-- FULFIL {5; 6 not in force; 7; 14 workers on; 15 "not 7"}
+abbrev pub fulfilRefusals : Board → ℕ → ℕ → ℕ → List Refusal
+fulfilRefusals b n officer assurances =
+    5 when notLive b n
+    ∷ 6 when not (inForce (authority b n))
+    ∷ 7 when notOfficer b n officer
+    ∷ 14 when workersOn (authority b n)
+    ∷ 15 when not (eqb assurances 7)
+    ∷ []
+
+-- CONTINUE {5; 6 old not in force or new not pending; 7 either; 11, 12, 13 for the new}
+abbrev pub continueRefusals : Board → ℕ → ℕ → ℕ → ℕ → List Refusal
+continueRefusals b old new officerOld officerNew =
+    5 when (notLive b old || notLive b new)
+    ∷ 6 when (not (inForce (authority b old)) || inForce (authority b new))
+    ∷ 7 when (notOfficer b old officerOld || notOfficer b new officerNew)
+    ∷ 11 when unprotected b (authority b new)
+    ∷ 12 when occupiedBeside b old (authority b new)
+    ∷ 13 when overlaps b old (authority b new)
+    ∷ []
+
+-- MOVE {9, 12, 14, 17, 18, 19}, through the gate with the number g
+abbrev pub moveRefusals : Board → ℕ → ℕ → Gate → ℕ → ℕ → List Refusal
+moveRefusals b t g gate n officer =
+    9 when noRoom b gate
+    ∷ 12 when taken b t (gate .to)
+    ∷ 14 when workedOn b (gate .to)
+    ∷ 17 when notThere b t gate
+    ∷ 18 when barred b g (gate .to)
+    ∷ 19 when notPiloted b (gate .to) n officer
+    ∷ []
+
+-- PASSED {8 head equals rear; 17 not on the board}
+abbrev pub passedRefusals : Board → ℕ → List Refusal
+passedRefusals b t =
+    8 when (onBoard b t && eqb (train b t .head) (train b t .rear))
+    ∷ 17 when not (onBoard b t)
+    ∷ []
+
+-- the conditions of a call; `s` has its stamp
 unfoldable pub own : Board → Seven → Call → List Refusal
 own b s NoSuchCall = []
 own b s BadField = []
--- REQUEST {9}
-own b s (Request kind first last officer) =
-    9 when full b
-    ∷ []
--- WITHDRAW {5; 6 not pending; 7}
-own b s (Withdraw n officer) =
-    5 when notLive b (n .0)
-    ∷ 6 when inForce (authority b (n .0))
-    ∷ 7 when notOfficer b (n .0) officer
-    ∷ []
--- AGREE {5; 6 not a TOA in force and a pending TWA; 7; 8 that TOA already recorded}
-own b s (Agree toa twa officer) =
-    5 when (notLive b (toa .0) || notLive b (twa .0))
-    ∷ 6
-    when not
-    (isToa (authority b (toa .0) .kind) && inForce (authority b (toa .0)) && isTwa (authority b (twa .0) .kind)
-    && not (inForce (authority b (twa .0))))
-    ∷ 7 when notOfficer b (toa .0) officer
-    ∷ 8 when eqb (authority b (twa .0) .agreed .0) (toa .0)
-    ∷ []
--- BLOCK {8; 10 "gate of kind 4"}
-own b s (Block g) =
-    8 when has (g .0) (b .blocks)
-    ∷ 10 when eqb (gateAt (b .gates) (g .0) .kind) 4
-    ∷ []
--- UNBLOCK {8; 16}
-own b s (Unblock g) =
-    8 when not (has (g .0) (b .blocks))
-    ∷ 16 when stillNeeded b (g .0)
-    ∷ []
--- GRANT {5; 6 not pending; 7; 11; 12 a train touches the limits; 13}
-own b s (Grant n officer) =
-    5 when notLive b (n .0)
-    ∷ 6 when inForce (authority b (n .0))
-    ∷ 7 when notOfficer b (n .0) officer
-    ∷ 11 when unprotected b (authority b (n .0))
-    ∷ 12 when occupied b (authority b (n .0))
-    ∷ 13 when overlaps b 0 (authority b (n .0))
-    ∷ []
--- CLEAR {5; 6 not in force; 7; 8}
-own b s (Clear n officer) =
-    5 when notLive b (n .0)
-    ∷ 6 when not (inForce (authority b (n .0)))
-    ∷ 7 when notOfficer b (n .0) officer
-    ∷ 8 when not (workersOn (authority b (n .0)))
-    ∷ []
--- REOCCUPY {5; 6 not in force; 7; 8; "REOCCUPY of a TWA also 12 a train touches the limits"}
-own b s (Reoccupy n officer) =
-    5 when notLive b (n .0)
-    ∷ 6 when not (inForce (authority b (n .0)))
-    ∷ 7 when notOfficer b (n .0) officer
-    ∷ 8 when workersOn (authority b (n .0))
-    ∷ 12 when (isTwa (authority b (n .0) .kind) && occupied b (authority b (n .0)))
-    ∷ []
--- HAND OVER {5; 7 for out; 8 both the same}, "Either stage."
-own b s (HandOver n out into) =
-    5 when notLive b (n .0)
-    ∷ 7 when notOfficer b (n .0) out
-    ∷ 8 when eqb out into
-    ∷ []
--- FULFIL {5; 6 not in force; 7; 14 workers on; 15 "not 7"}
-own b s (Fulfil n officer assurances) =
-    5 when notLive b (n .0)
-    ∷ 6 when not (inForce (authority b (n .0)))
-    ∷ 7 when notOfficer b (n .0) officer
-    ∷ 14 when workersOn (authority b (n .0))
-    ∷ 15 when not (eqb assurances 7)
-    ∷ []
--- CONTINUE {5; 6 old not in force or new not pending; 7 either; 11, 12, 13 for the new}
-own b s (Continue old new officerOld officerNew) =
-    5 when (notLive b (old .0) || notLive b (new .0))
-    ∷ 6 when (not (inForce (authority b (old .0))) || inForce (authority b (new .0)))
-    ∷ 7 when (notOfficer b (old .0) officerOld || notOfficer b (new .0) officerNew)
-    ∷ 11 when unprotected b (authority b (new .0))
-    ∷ 12 when occupiedBeside b (old .0) (authority b (new .0))
-    ∷ 13 when overlaps b (old .0) (authority b (new .0))
-    ∷ []
--- MOVE {9, 12, 14, 17, 18, 19}
-own b s (Move t g n officer) =
-    9 when noRoom b (gateAt (b .gates) (g .0))
-    ∷ 12 when taken b (t .0) (gateAt (b .gates) (g .0) .to)
-    ∷ 14 when workedOn b (gateAt (b .gates) (g .0) .to)
-    ∷ 17 when notThere b (t .0) (gateAt (b .gates) (g .0))
-    ∷ 18 when barred b (g .0) (gateAt (b .gates) (g .0) .to)
-    ∷ 19 when notPiloted b (gateAt (b .gates) (g .0) .to) (n .0) officer
-    ∷ []
--- PASSED {8 head equals rear; 17 not on the board}
-own b s (Passed t) =
-    8 when (onBoard b (t .0) && eqb (train b (t .0) .head) (train b (t .0) .rear))
-    ∷ 17 when not (onBoard b (t .0))
-    ∷ []
+own b s (Request kind first last officer) = requestRefusals b
+own b s (Withdraw n officer) = withdrawRefusals b (n .0) officer
+own b s (Agree toa twa officer) = agreeRefusals b (toa .0) (twa .0) officer
+own b s (Block g) = blockRefusals b (g .0)
+own b s (Unblock g) = unblockRefusals b (g .0)
+own b s (Grant n officer) = grantRefusals b (n .0) officer
+own b s (Clear n officer) = clearRefusals b (n .0) officer
+own b s (Reoccupy n officer) = reoccupyRefusals b (n .0) officer
+own b s (HandOver n out into) = handOverRefusals b (n .0) out into
+own b s (Fulfil n officer assurances) = fulfilRefusals b (n .0) officer assurances
+own b s (Continue old new officerOld officerNew) = continueRefusals b (old .0) (new .0) officerOld officerNew
+own b s (Move t g n officer) = moveRefusals b (t .0) (g .0) (gateAt (b .gates) (g .0)) (n .0) officer
+own b s (Passed t) = passedRefusals b (t .0)
 
 -- all conditions of a call; `room` is the length of the buffer for its line
 unfoldable pub conditions : Board → Seven → ℕ → List Refusal

@@ -62,12 +62,16 @@ pub record Once (b : Board) : Type 0 where
   pub last : b .last ≤ 9999
   pub allotted : (a : Authority) → List·Memᴰ a (b .authorities) → (1 ≤ authorityNo a) × (authorityNo a ≤ b .last)
 
--- what holds of every register that opening or a call returned: its counts are within its arrays, and what they hold is held once
-pub record Kept (r : Register) : Type 0 where
+-- a register's counts are within its arrays, and its portions fit a set
+pub record Bounds (r : Register) : Type 0 where
   pub portions : r .portions ≤ 64
   pub gates : r .«gate_count» ≤ 64
   pub live : r .live ≤ 32
   pub running : r .running ≤ 32
+
+-- what holds of every register that opening or a call returned: its counts are within its arrays, and what they hold is held once
+pub record Kept (r : Register) : Type 0 where
+  pub bounds : Bounds r
   pub once : Once (boardOf r)
 
 -- the whole result of `open` for a plan's text
