@@ -12,3 +12,4 @@ pub mod Moving
 pub mod Safety
 pub mod Equality
 pub mod Lines
+pub mod Traces
