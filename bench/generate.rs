@@ -1,0 +1,1325 @@
+//! Seeded lists of calls for the track authority board.
+//!
+//!   generate SEED KIND OUTDIR      writes the files plan and calls
+//!   generate SEED busy N OUTDIR    the same, N calls on a busy board
+//!
+//! Kinds: steered, numbers, damaged, short, wild, busy N. The generator looks
+//! at the reference's board, which it uses as a module, to steer towards calls
+//! that are accepted or refused for a wanted reason.
+//!
+//! Build: rustc -O generate.rs
+
+#[path = "reference.rs"]
+#[allow(dead_code)]
+mod reference;
+
+use reference::{
+    write_number, Authority, AuthorityNumber, Board, Gate, GateNumber, Kind, Place, Portions, Site, Stamp, Train,
+    CALL_LINE, COLUMNS, LAST_NUMBER, MOST_LIVE, OUTSIDE, PLAN_LINE,
+};
+use std::fs::{self, File};
+use std::io::{self, BufWriter, Write};
+use std::path::Path;
+use std::process::ExitCode;
+
+// ---------------------------------------------------------------------------
+// Random numbers (splitmix64)
+// ---------------------------------------------------------------------------
+
+struct Rng(u64);
+
+impl Rng {
+    fn next(&mut self) -> u64 {
+        self.0 = self.0.wrapping_add(0x9E37_79B9_7F4A_7C15);
+        let mut z = self.0;
+        z = (z ^ (z >> 30)).wrapping_mul(0xBF58_476D_1CE4_E5B9);
+        z = (z ^ (z >> 27)).wrapping_mul(0x94D0_49BB_1331_11EB);
+        z ^ (z >> 31)
+    }
+
+    fn below(&mut self, end: usize) -> usize {
+        (self.next() % end as u64) as usize
+    }
+
+    /// Both ends included.
+    fn between(&mut self, least: u16, most: u16) -> u16 {
+        least + self.below(usize::from(most - least) + 1) as u16
+    }
+
+    fn chance(&mut self, percent: usize) -> bool {
+        self.below(100) < percent
+    }
+
+    fn pick<T: Copy>(&mut self, from: &[T]) -> T {
+        from[self.below(from.len())]
+    }
+
+    /// An index drawn by weight.
+    fn weighted(&mut self, weights: &[usize]) -> usize {
+        let mut rest = self.below(weights.iter().sum());
+        for (index, &weight) in weights.iter().enumerate() {
+            if rest < weight {
+                return index;
+            }
+            rest -= weight;
+        }
+        unreachable!()
+    }
+
+    /// The first that fits, from a random place on and round.
+    fn first_fit<T: Copy>(&mut self, from: &[T], fits: impl Fn(&T) -> bool) -> Option<T> {
+        if from.is_empty() {
+            return None;
+        }
+        let start = self.below(from.len());
+        from[start..].iter().chain(&from[..start]).copied().find(|one| fits(one))
+    }
+}
+
+// ---------------------------------------------------------------------------
+// Plans
+// ---------------------------------------------------------------------------
+
+#[derive(Clone)]
+struct Plan {
+    portions: u16,
+    gates: Vec<[u16; 3]>,
+}
+
+impl Plan {
+    fn text(&self) -> Vec<u8> {
+        let mut text = plan_line([self.portions.into(), self.gates.len() as u32, 0]);
+        for &[from, to, kind] in &self.gates {
+            text.extend(plan_line([from.into(), to.into(), kind.into()]));
+        }
+        text
+    }
+
+    fn random(rng: &mut Rng) -> Plan {
+        let portions = match rng.below(10) {
+            0 => rng.between(1, 2),
+            1..=4 => rng.between(2, 8),
+            5..=6 => rng.between(6, 30),
+            7 => rng.between(1, 64),
+            8 => 64,
+            _ => rng.between(60, 64),
+        };
+        let mut plan = Plan { portions, gates: Vec::new() };
+        if rng.chance(2) {
+            return plan;
+        }
+        match rng.below(10) {
+            0..=4 => plan.line(rng),
+            5 => plan.ring(rng),
+            6 => plan.scatter(rng, 64),
+            7..=8 => {
+                plan.line(rng);
+                let more = rng.below(10);
+                plan.scatter(rng, more);
+            }
+            _ => {
+                let few = rng.below(6);
+                plan.scatter(rng, few);
+            }
+        }
+        plan.gates.truncate(64);
+        plan.set_kinds(rng);
+        if rng.chance(60) {
+            plan.shuffle(rng);
+        }
+        plan
+    }
+
+    /// Portions in a row, up, down or both, with ends to outside.
+    fn line(&mut self, rng: &mut Rng) {
+        let last = self.portions - 1;
+        let (up, down) = rng.pick(&[(true, true), (true, true), (true, false), (false, true)]);
+        if up {
+            self.gates.push([OUTSIDE, 0, 1]);
+        }
+        if down {
+            self.gates.push([0, OUTSIDE, 1]);
+        }
+        for portion in 0..last {
+            if up {
+                self.gates.push([portion, portion + 1, 1]);
+            }
+            if down {
+                self.gates.push([portion + 1, portion, 1]);
+            }
+        }
+        // The far end first if the row is longer than the gates.
+        let ends = [[last, OUTSIDE, 1], [OUTSIDE, last, 1]];
+        for (wanted, end) in [up, down].iter().zip(ends) {
+            if *wanted {
+                let place = self.gates.len().min(2);
+                self.gates.insert(place, end);
+            }
+        }
+    }
+
+    /// A ring with some ways in and out.
+    fn ring(&mut self, rng: &mut Rng) {
+        for _ in 0..1 + rng.below(4) {
+            let at = rng.below(self.portions.into()) as u16;
+            self.gates.push(rng.pick(&[[OUTSIDE, at, 1], [at, OUTSIDE, 1], [OUTSIDE, 0, 1]]));
+        }
+        if self.portions > 1 {
+            for portion in 0..self.portions {
+                self.gates.push([portion, (portion + 1) % self.portions, 1]);
+            }
+        }
+    }
+
+    fn scatter(&mut self, rng: &mut Rng, count: usize) {
+        for _ in 0..count {
+            let from = self.place(rng);
+            let mut to = self.place(rng);
+            while to == from {
+                to = self.place(rng);
+            }
+            self.gates.push([from, to, 1]);
+        }
+    }
+
+    fn place(&self, rng: &mut Rng) -> u16 {
+        if rng.chance(25) {
+            OUTSIDE
+        } else {
+            rng.below(self.portions.into()) as u16
+        }
+    }
+
+    fn set_kinds(&mut self, rng: &mut Rng) {
+        let plain = rng.pick(&[0, 0, 5, 10, 30]);
+        for gate in &mut self.gates {
+            gate[2] = if rng.chance(plain) { 4 } else { rng.between(1, 3) };
+        }
+    }
+
+    fn shuffle(&mut self, rng: &mut Rng) {
+        for index in (1..self.gates.len()).rev() {
+            let other = rng.below(index + 1);
+            self.gates.swap(index, other);
+        }
+    }
+
+    /// P 64, G 64: a ring of 48 portions with four ways in and four out, and a
+    /// yard of 16 portions with eight gates.
+    fn busy(rng: &mut Rng) -> Plan {
+        let mut plan = Plan { portions: 64, gates: Vec::new() };
+        for portion in 0..48 {
+            plan.gates.push([portion, (portion + 1) % 48, rng.between(1, 3)]);
+        }
+        for quarter in 0..4 {
+            plan.gates.push([OUTSIDE, 12 * quarter, rng.between(1, 3)]);
+            plan.gates.push([12 * quarter + 6, OUTSIDE, rng.between(1, 3)]);
+        }
+        for pair in 0..4 {
+            let at = 48 + 4 * pair;
+            plan.gates.push([at, at + 1, rng.between(1, 3)]);
+            plan.gates.push([at + 1, at, if pair == 0 { 4 } else { rng.between(1, 3) }]);
+        }
+        plan.shuffle(rng);
+        plan
+    }
+}
+
+/// Numbers up to 999999, so that damaged plans can be written too.
+fn wide_columns(number: u32) -> [u8; COLUMNS] {
+    let mut columns = [b' '; COLUMNS];
+    columns.copy_from_slice(format!("{number:6}").as_bytes());
+    columns
+}
+
+fn plan_line(numbers: [u32; 3]) -> Vec<u8> {
+    let mut line: Vec<u8> = numbers.iter().flat_map(|&number| wide_columns(number)).collect();
+    line.push(b'\n');
+    line
+}
+
+fn call_line(numbers: &[u16; 7]) -> [u8; CALL_LINE] {
+    let mut line = [b'\n'; CALL_LINE];
+    for (number, columns) in numbers.iter().zip(line.chunks_exact_mut(COLUMNS)) {
+        write_number(*number, columns);
+    }
+    line
+}
+
+// ---------------------------------------------------------------------------
+// What a call's fields mean
+// ---------------------------------------------------------------------------
+
+#[derive(Clone, Copy, PartialEq)]
+enum Role {
+    Kind,
+    First,
+    Last,
+    Officer,
+    Authority,
+    Gate,
+    Train,
+    Assurances,
+    /// may be 0
+    Pilot,
+    PilotOfficer,
+    Unused,
+}
+
+fn roles(call: u16) -> [Role; 4] {
+    use self::Role::{Assurances, First, Gate, Kind, Last, Officer, Pilot, PilotOfficer, Train, Unused};
+    const A: Role = Role::Authority;
+    match call {
+        1 => [Kind, First, Last, Officer],
+        3 => [A, A, Officer, Unused],
+        4 | 5 => [Gate, Unused, Unused, Unused],
+        9 => [A, Officer, Officer, Unused],
+        10 => [A, Officer, Assurances, Unused],
+        11 => [A, A, Officer, Officer],
+        12 => [Train, Gate, Pilot, PilotOfficer],
+        13 => [Train, Unused, Unused, Unused],
+        _ => [A, Officer, Unused, Unused],
+    }
+}
+
+/// The answers that 01's braces allow, and 3 and 4; 0 is left out.
+fn refusals(call: u16) -> &'static [u16] {
+    match call {
+        1 => &[3, 4, 9],
+        2 => &[3, 4, 5, 6, 7],
+        3 => &[3, 4, 5, 6, 7, 8],
+        4 => &[3, 4, 8, 10],
+        5 => &[3, 4, 8, 16],
+        6 => &[3, 4, 5, 6, 7, 11, 12, 13],
+        7 => &[3, 4, 5, 6, 7, 8],
+        8 => &[3, 4, 5, 6, 7, 8, 12],
+        9 => &[3, 4, 5, 7, 8],
+        10 => &[3, 4, 5, 6, 7, 14, 15],
+        11 => &[3, 4, 5, 6, 7, 11, 12, 13],
+        12 => &[3, 4, 9, 12, 14, 17, 18, 19],
+        13 => &[3, 4, 8, 17],
+        _ => &[2],
+    }
+}
+
+// ---------------------------------------------------------------------------
+// Steering
+// ---------------------------------------------------------------------------
+
+/// Weights of the calls 1 to 13.
+type Mood = [usize; 13];
+
+const BUILD: Mood = [14, 2, 8, 22, 3, 20, 5, 3, 3, 2, 6, 8, 4];
+const TRAFFIC: Mood = [4, 1, 3, 5, 6, 5, 8, 6, 3, 2, 4, 35, 20];
+const WIND_DOWN: Mood = [3, 8, 3, 3, 20, 4, 14, 3, 4, 20, 10, 8, 12];
+const FILL: Mood = [70, 1, 3, 6, 1, 6, 2, 2, 2, 1, 1, 4, 2];
+const CROWD: Mood = [2, 1, 1, 2, 1, 3, 2, 2, 1, 1, 2, 70, 3];
+const DRAIN: Mood = [2, 1, 1, 2, 8, 2, 6, 2, 2, 2, 2, 40, 30];
+const EVEN: Mood = [8, 8, 8, 8, 8, 8, 8, 8, 8, 8, 8, 8, 8];
+const RENEW: Mood = [16, 2, 3, 14, 2, 6, 5, 3, 3, 2, 24, 20, 3];
+const WORKSITE: Mood = [10, 2, 14, 12, 2, 14, 12, 16, 3, 2, 6, 24, 8];
+const MOODS: [&Mood; 9] = [&BUILD, &TRAFFIC, &WIND_DOWN, &FILL, &CROWD, &DRAIN, &EVEN, &RENEW, &WORKSITE];
+
+struct Driver {
+    rng: Rng,
+    board: Board,
+    officers: Vec<u16>,
+    train_pool: Vec<u16>,
+    mood: Mood,
+    /// minutes that a call goes on, in thousandths
+    pace: usize,
+    /// whether stamps may jump to the next day or further
+    leaps: bool,
+}
+
+impl Driver {
+    fn new(mut rng: Rng, plan: &Plan) -> Driver {
+        let board = Board::open(&plan.text()).expect("the generator made a wrong plan");
+        let mut officers: Vec<u16> = (0..2 + rng.below(4)).map(|_| rng.between(1, 12)).collect();
+        officers.extend([1, 999]);
+        let mut train_pool: Vec<u16> = (1..=34 + rng.between(0, 6)).collect();
+        train_pool.extend([64, 99, 9998, 9999]);
+        Driver { rng, board, officers, train_pool, mood: EVEN, pace: 2000, leaps: true }
+    }
+
+    fn answer(&self, numbers: &[u16; 7]) -> u16 {
+        self.board.clone().call(numbers).0
+    }
+
+    // ----- stamps -----
+
+    fn stamp(&mut self) -> Stamp {
+        let last = self.board.last_stamp;
+        if self.leaps {
+            match self.rng.below(200) {
+                0..=2 => return Stamp { day: last.day, time: 2359 },
+                3..=6 if last.day < 9999 => {
+                    let time = self.rng.between(0, 23) * 100 + self.rng.between(0, 59);
+                    return Stamp { day: last.day + 1, time: self.rng.pick(&[0, 1, time]) };
+                }
+                7 => return Stamp { day: last.day + self.rng.between(0, (9999 - last.day).min(300)), time: 2359 },
+                _ => {}
+            }
+        }
+        let thousandths = self.rng.below(2 * self.pace + 1);
+        let more = thousandths / 1000 + usize::from(self.rng.below(1000) < thousandths % 1000);
+        later(last, more)
+    }
+
+    fn bad_stamp(&mut self) -> Stamp {
+        let good = self.stamp();
+        let minute = self.rng.between(60, 99);
+        let time = good.time / 100 * 100 + minute;
+        match self.rng.below(3) {
+            0 => Stamp { day: self.rng.pick(&[10000, 10001, 65535]), time: good.time },
+            1 => Stamp { day: good.day, time: self.rng.pick(&[2400, 2360, 2399, 2401, 65535, 60, 9999]) },
+            _ => Stamp { day: good.day, time },
+        }
+    }
+
+    /// A stamp before the last accepted one, in range, if there is any.
+    fn earlier_stamp(&mut self) -> Stamp {
+        let Stamp { day, time } = self.board.last_stamp;
+        let same_day = time > 0 && (day == 0 || self.rng.chance(60));
+        if same_day {
+            let before = if time % 100 == 0 { time - 41 } else { time - 1 };
+            let hour_before = if time >= 100 { time - 100 } else { 0 };
+            Stamp { day, time: self.rng.pick(&[before, before, hour_before, 0]) }
+        } else if day > 0 {
+            let last_of_day = self.rng.pick(&[2359, 2359, time, 0]);
+            Stamp { day: self.rng.pick(&[day - 1, day - 1, 0]), time: last_of_day }
+        } else {
+            Stamp { day, time }
+        }
+    }
+
+    // ----- picking from the board -----
+
+    fn pick_live(&mut self, fits: impl Fn(&Authority) -> bool) -> Option<Authority> {
+        self.rng.first_fit(&self.board.live, fits)
+    }
+
+    fn pick_gate(&mut self, fits: impl Fn(GateNumber, &Gate) -> bool) -> Option<u16> {
+        let count = self.board.gates.len();
+        if count == 0 {
+            return None;
+        }
+        let start = self.rng.below(count);
+        (start..count)
+            .chain(0..start)
+            .find(|&index| fits(GateNumber(index as u16), &self.board.gates[index]))
+            .map(|index| index as u16)
+    }
+
+    fn any_gate(&mut self) -> u16 {
+        self.pick_gate(|_, _| true).unwrap_or(0)
+    }
+
+    fn any_officer(&mut self) -> u16 {
+        self.rng.pick(&self.officers)
+    }
+
+    fn other_officer(&mut self, officer: u16) -> u16 {
+        let other = self.any_officer();
+        if other != officer {
+            other
+        } else if officer < 999 {
+            officer + 1
+        } else {
+            officer - 1
+        }
+    }
+
+    /// A number that no live authority has, most of the time.
+    fn dead_number(&mut self) -> u16 {
+        let last = self.board.last_number;
+        let candidates = [last.min(9998) + 1, self.rng.between(1, last.max(1)), self.rng.between(1, 9999), 9999];
+        for _ in 0..4 {
+            let number = self.rng.pick(&candidates);
+            if self.board.live.iter().all(|one| one.number.0 != number) {
+                return number;
+            }
+        }
+        candidates[0]
+    }
+
+    fn free_train(&mut self) -> u16 {
+        let trains = &self.board.trains;
+        self.rng
+            .first_fit(&self.train_pool, |&number| trains.iter().all(|one| one.number.0 != number))
+            .unwrap_or(77)
+    }
+
+    fn any_train(&mut self) -> u16 {
+        if self.rng.chance(80) && !self.board.trains.is_empty() {
+            self.rng.pick(&self.board.trains).number.0
+        } else {
+            self.rng.pick(&self.train_pool)
+        }
+    }
+
+    /// Authority and officer that 19 asks of a MOVE through the gate.
+    fn due(&self, gate: u16) -> (u16, u16) {
+        let Some(gate) = self.board.gates.get(usize::from(gate)) else {
+            return (0, 0);
+        };
+        let here = |one: &&Authority| one.is_in_force() && one.limits.hold(gate.to);
+        let exclusive = self.board.live.iter().filter(here).find(|one| one.kind.is_exclusive());
+        let one = exclusive.or_else(|| self.board.live.iter().find(here));
+        one.map_or((0, 0), |one| (one.number.0, one.officer))
+    }
+
+    // ----- fields that are likely to be accepted -----
+
+    fn good_fields(&mut self, call: u16) -> [u16; 4] {
+        match call {
+            1 => self.good_request(),
+            2 => self.two(|one| one.is_pending()),
+            3 => self.good_agree(),
+            4 => self.good_block(),
+            5 => {
+                let blocked = self.board.blocked;
+                let needed = self.needed_in_force();
+                let free = |number: GateNumber, _: &Gate| blocked.hold(number) && needed >> number.0 & 1 == 0;
+                let gate = self.pick_gate(free).unwrap_or_else(|| self.any_gate());
+                [gate, 0, 0, 0]
+            }
+            6 => self.good_grant(),
+            7 => self.two(|one| one.is_in_force() && one.site == Site::WorkersOn),
+            8 => self.two(|one| one.is_in_force() && one.site == Site::Clear),
+            9 => {
+                let [authority, out, _, _] = self.two(|_| true);
+                [authority, out, self.other_officer(out), 0]
+            }
+            10 => {
+                let [authority, officer, _, _] = self.two(|one| one.is_in_force() && one.site == Site::Clear);
+                [authority, officer, 7, 0]
+            }
+            11 => self.good_continue(),
+            12 => self.good_move(),
+            13 => {
+                let wanted = |train: &Train| train.head != train.rear;
+                let train = self.rng.first_fit(&self.board.trains, wanted);
+                [train.map_or_else(|| self.any_train(), |train| train.number.0), 0, 0, 0]
+            }
+            _ => [self.any(Role::Authority), self.any_officer(), 0, 0],
+        }
+    }
+
+    /// An authority that fits and its officer; any other if none fits.
+    fn two(&mut self, fits: impl Fn(&Authority) -> bool) -> [u16; 4] {
+        let found = self.pick_live(fits).or_else(|| self.pick_live(|_| true));
+        match found {
+            Some(one) => [one.number.0, one.officer, 0, 0],
+            None => [self.dead_number(), self.any_officer(), 0, 0],
+        }
+    }
+
+    fn needed_in_force(&self) -> u64 {
+        self.board.live.iter().filter(|one| one.is_in_force()).fold(0, |all, one| all | one.needs.0)
+    }
+
+    fn good_request(&mut self) -> [u16; 4] {
+        let most = self.board.portions - 1;
+        let kind = self.rng.pick(&[1, 1, 2, 2, 2, 3, 3, 3]);
+        let near = match self.rng.below(8) {
+            // a TWA wants a TOA to agree, another something to continue
+            0..=2 if kind == 3 => self.pick_live(|one| one.is_in_force() && one.kind == Kind::Toa),
+            0..=2 => self.pick_live(|one| one.is_in_force()),
+            3 => self.pick_live(|_| true),
+            _ => None,
+        };
+        let (first, last) = if let Some(one) = near {
+            // its limits, a little more or less at each end
+            let (first, last) = ends(one.limits);
+            let low = (first + self.rng.pick(&[0, 0, 1, 2])).saturating_sub(self.rng.pick(&[0, 0, 1, 3]));
+            let high = (last + self.rng.pick(&[0, 0, 1, 3])).saturating_sub(self.rng.pick(&[0, 0, 1, 2]));
+            (low.min(most), high.min(most))
+        } else {
+            match self.rng.below(12) {
+                0 => (0, most),
+                1 => (0, self.rng.between(0, most)),
+                2 => (self.rng.between(0, most), most),
+                3 | 4 => match self.rng.first_fit(&self.board.trains, |_| true).map(|train| train.head) {
+                    Some(Place::Portion(at)) => (at.saturating_sub(self.rng.between(0, 1)), (at + 1).min(most)),
+                    _ => (most, most),
+                },
+                _ => {
+                    let first = self.rng.between(0, most);
+                    (first, (first + self.rng.pick(&[0, 0, 0, 1, 1, 2, 3, 5])).min(most))
+                }
+            }
+        };
+        [kind, first.min(last), last.max(first), self.any_officer()]
+    }
+
+    fn good_agree(&mut self) -> [u16; 4] {
+        let twa = self.pick_live(|one| one.is_pending() && one.kind == Kind::Twa);
+        let Some(twa) = twa.or_else(|| self.pick_live(|_| true)) else {
+            return [self.dead_number(), self.dead_number(), self.any_officer(), 0];
+        };
+        let right = |one: &Authority| one.is_in_force() && one.kind == Kind::Toa && twa.agreed != Some(one.number);
+        let toa = self
+            .pick_live(|one| right(one) && one.limits.share(twa.limits))
+            .or_else(|| self.pick_live(right))
+            .or_else(|| self.pick_live(|one| one.kind == Kind::Toa))
+            .unwrap_or(twa);
+        [toa.number.0, twa.number.0, toa.officer, 0]
+    }
+
+    fn good_block(&mut self) -> [u16; 4] {
+        let blocked = self.board.blocked;
+        let free = |number: GateNumber, gate: &Gate| gate.can_be_blocked() && !blocked.hold(number);
+        let mut gate = None;
+        if self.rng.chance(80) {
+            // what some pending authority still needs
+            if let Some(one) = self.pick_live(|one| one.is_pending() && !one.needs.all_in(blocked)) {
+                gate = self.pick_gate(|number, gate| one.needs.hold(number) && free(number, gate));
+            }
+        }
+        [gate.or_else(|| self.pick_gate(free)).unwrap_or_else(|| self.any_gate()), 0, 0, 0]
+    }
+
+    fn good_grant(&mut self) -> [u16; 4] {
+        let blocked = self.board.blocked;
+        let trains = self.board.trains.clone();
+        let live = self.board.live.clone();
+        let likely = |this: &Authority| {
+            this.is_pending()
+                && this.needs.all_in(blocked)
+                && !trains.iter().any(|train| train.touches(this.limits))
+                && !live.iter().any(|that| {
+                    that.is_in_force() && that.limits.share(this.limits) && this.agreed != Some(that.number)
+                })
+        };
+        match self.pick_live(likely) {
+            Some(one) => [one.number.0, one.officer, 0, 0],
+            None => self.two(|one| one.is_pending()),
+        }
+    }
+
+    fn good_continue(&mut self) -> [u16; 4] {
+        let blocked = self.board.blocked;
+        let with = self.rng.first_fit(&self.board.trains, |train| train.with.is_some()).and_then(|train| train.with);
+        let old = match with {
+            Some(number) if self.rng.chance(60) => self.pick_live(|one| one.number == number),
+            _ => None,
+        };
+        let old = old.or_else(|| self.pick_live(|one| one.is_in_force())).or_else(|| self.pick_live(|_| true));
+        let Some(old) = old else {
+            return [self.dead_number(), self.dead_number(), self.any_officer(), self.any_officer()];
+        };
+        let right = |one: &Authority| one.is_pending() && one.needs.all_in(blocked);
+        let near = |one: &Authority| right(one) && one.limits.share(old.limits);
+        let new = if self.rng.chance(80) { self.pick_live(near) } else { None };
+        let new = new
+            .or_else(|| self.pick_live(right))
+            .or_else(|| self.pick_live(|one| one.is_pending()))
+            .unwrap_or(old);
+        [old.number.0, new.number.0, old.officer, new.officer]
+    }
+
+    fn good_move(&mut self) -> [u16; 4] {
+        let trains = self.board.trains.clone();
+        let live = self.board.live.clone();
+        let standing = |from: Place| trains.iter().any(|train| train.head == from && train.rear == from);
+        let entry_share = if self.mood == CROWD { 90 } else { 25 };
+        let mut gate = None;
+        if self.rng.chance(entry_share) {
+            let entry = |_: GateNumber, gate: &Gate| gate.from == Place::Outside;
+            let led = |number: GateNumber, gate: &Gate| {
+                let exclusive = |one: &Authority| one.is_in_force() && one.kind.is_exclusive();
+                entry(number, gate) && live.iter().any(|one| exclusive(one) && one.limits.hold(gate.to))
+            };
+            let free = |number: GateNumber, gate: &Gate| {
+                entry(number, gate) && !trains.iter().any(|train| train.touches_place(gate.to))
+            };
+            gate = if self.rng.chance(50) { self.pick_gate(led) } else { self.pick_gate(free) };
+            gate = gate.or_else(|| self.pick_gate(led)).or_else(|| self.pick_gate(entry));
+        }
+        if self.rng.chance(20) {
+            // into a TWA in force with a clear site, best inside a TOA
+            let clear = |one: &Authority| one.is_in_force() && one.kind == Kind::Twa && one.site == Site::Clear;
+            let reachable = |gate: &Gate| gate.from == Place::Outside || standing(gate.from);
+            let into = |gate: &Gate, fits: &dyn Fn(&Authority) -> bool| {
+                live.iter().any(|one| fits(one) && one.limits.hold(gate.to))
+            };
+            let toa = |one: &Authority| one.is_in_force() && one.kind == Kind::Toa;
+            gate = self
+                .pick_gate(|_, gate| reachable(gate) && into(gate, &clear) && into(gate, &toa))
+                .or_else(|| self.pick_gate(|_, gate| reachable(gate) && into(gate, &clear)))
+                .or(gate);
+        }
+        if gate.is_none() && self.mood == DRAIN {
+            gate = self.pick_gate(|_, gate| gate.to == Place::Outside && standing(gate.from));
+        }
+        let gate = gate
+            .or_else(|| self.pick_gate(|_, gate| standing(gate.from)))
+            .unwrap_or_else(|| self.any_gate());
+        let from = self.board.gates.get(usize::from(gate)).map_or(Place::Outside, |gate| gate.from);
+        let train = if from == Place::Outside {
+            self.free_train()
+        } else {
+            let there = |train: &Train| train.head == from && train.rear == from;
+            let found = self.rng.first_fit(&trains, there);
+            found.map_or_else(|| self.any_train(), |train| train.number.0)
+        };
+        let (authority, officer) = self.due(gate);
+        [train, gate, authority, officer]
+    }
+
+    // ----- fields taken anywhere, with the officer that belongs to them -----
+
+    fn loose_fields(&mut self, call: u16) -> [u16; 4] {
+        match call {
+            3 | 11 => {
+                let [one, officer, _, _] = self.two(|_| true);
+                let [other, other_officer, _, _] = self.two(|_| true);
+                [one, other, officer, if call == 11 { other_officer } else { 0 }]
+            }
+            4 | 5 => [self.any_gate(), 0, 0, 0],
+            9 => {
+                let [authority, out, _, _] = self.two(|_| true);
+                [authority, out, self.any_officer(), 0]
+            }
+            10 => {
+                let [authority, officer, _, _] = self.two(|_| true);
+                [authority, officer, self.rng.between(0, 7), 0]
+            }
+            12 => {
+                let gate = self.any_gate();
+                let (authority, officer) = self.due(gate);
+                [self.any_train(), gate, authority, officer]
+            }
+            13 => [self.any_train(), 0, 0, 0],
+            1 => self.good_request(),
+            _ => self.two(|_| true),
+        }
+    }
+
+    /// Any value in range for the field.
+    fn any(&mut self, role: Role) -> u16 {
+        match role {
+            Role::Kind => self.rng.between(1, 3),
+            Role::First | Role::Last => {
+                let most = self.board.portions - 1;
+                let any = self.rng.between(0, most);
+                self.rng.pick(&[0, most, any])
+            }
+            Role::Officer => {
+                let any = self.any_officer();
+                let live = self.two(|_| true)[1];
+                self.rng.pick(&[any, any, live, live, 1, 999])
+            }
+            Role::PilotOfficer => {
+                let live = self.two(|one| one.is_in_force())[1];
+                let any = self.any_officer();
+                self.rng.pick(&[0, live, live, any])
+            }
+            Role::Authority => {
+                let live = self.two(|_| true)[0];
+                let dead = self.dead_number();
+                let train = self.any_train();
+                self.rng.pick(&[live, live, live, dead, dead, train])
+            }
+            Role::Pilot => {
+                let live = self.two(|one| one.is_in_force())[0];
+                let any = self.any(Role::Authority);
+                self.rng.pick(&[0, live, live, any])
+            }
+            Role::Gate => {
+                let last = (self.board.gates.len() as u16).saturating_sub(1);
+                let any = self.any_gate();
+                self.rng.pick(&[0, last, any, any, any, any])
+            }
+            Role::Train => {
+                let any = self.any_train();
+                let authority = self.two(|_| true)[0];
+                self.rng.pick(&[any, any, any, 1, 9999, authority])
+            }
+            Role::Assurances => self.rng.between(0, 7),
+            Role::Unused => 0,
+        }
+    }
+
+    /// A value out of range for the field.
+    fn out_of_range(&mut self, role: Role) -> u16 {
+        let (portions, gates) = (self.board.portions, self.board.gates.len() as u16);
+        match role {
+            Role::Kind => self.rng.pick(&[0, 4, 5, 258, 65535]),
+            Role::First | Role::Last => self.rng.pick(&[portions, portions, portions + 1, 64, 99, 256, 65535]),
+            Role::Officer => self.rng.pick(&[0, 0, 1000, 1000, 1001, 65535]),
+            Role::PilotOfficer => self.rng.pick(&[1000, 1000, 1001, 65535]),
+            Role::Authority | Role::Train => self.rng.pick(&[0, 0, 10000, 10000, 10001, 65535]),
+            Role::Pilot => self.rng.pick(&[10000, 10000, 10001, 65535]),
+            Role::Gate => self.rng.pick(&[gates, gates, gates + 1, 64.max(gates), 99, 256, 65535]),
+            Role::Assurances => self.rng.pick(&[8, 8, 9, 15, 263, 65535]),
+            Role::Unused => self.rng.pick(&[1, 1, 2, 7, 256, 65535]),
+        }
+    }
+
+    // ----- calls -----
+
+    /// A call that may well be answered with `want`.
+    fn candidate(&mut self, call: u16, want: u16) -> [u16; 7] {
+        let roles = roles(call);
+        let mut fields = if want == 0 || self.rng.chance(50) { self.good_fields(call) } else { self.loose_fields(call) };
+        let mut stamp = self.stamp();
+        // Anything more that is wrong must not change the answer if it is the
+        // lowest number that counts.
+        let more = match want {
+            0 => 0,
+            3 | 4 | 5 => self.rng.pick(&[0, 0, 0, 1, 1, 2]),
+            _ => self.rng.pick(&[0, 0, 0, 0, 0, 1, 1, 2]),
+        };
+        for _ in 0..more {
+            let at = self.rng.below(4);
+            fields[at] = self.any(roles[at]);
+        }
+        match want {
+            3 => {
+                if self.rng.chance(15) {
+                    stamp = self.earlier_stamp();
+                }
+                match self.rng.below(12) {
+                    0 | 1 => stamp = self.bad_stamp(),
+                    2 if call == 1 => fields.swap(1, 2),
+                    _ => {
+                        let at = self.rng.below(4);
+                        fields[at] = self.out_of_range(roles[at]);
+                    }
+                }
+            }
+            4 => stamp = self.earlier_stamp(),
+            5 => {
+                let at = if call == 3 || call == 11 { self.rng.below(2) } else { 0 };
+                fields[at] = self.dead_number();
+            }
+            7 => {
+                let at = match call {
+                    3 => 2,
+                    11 => 2 + self.rng.below(2),
+                    _ => 1,
+                };
+                fields[at] = self.other_officer(fields[at]);
+            }
+            8 if call == 9 => fields[2] = fields[1],
+            15 => {
+                let [authority, officer, _, _] = self.two(|one| one.is_in_force() && one.site == Site::Clear);
+                fields = [authority, officer, self.rng.between(0, 7), 0];
+            }
+            17 if call == 12 || call == 13 => fields[0] = self.any(Role::Train),
+            19 => {
+                let to = self.board.gates.get(usize::from(fields[1])).map_or(Place::Outside, |gate| gate.to);
+                let here = |one: &Authority| one.is_in_force() && one.kind == Kind::Twa && one.limits.hold(to);
+                match self.pick_live(here) {
+                    // W's, where E's may be due
+                    Some(w) if self.rng.chance(60) => {
+                        fields[2] = w.number.0;
+                        fields[3] = w.officer;
+                    }
+                    _ => {
+                        let at = 2 + self.rng.below(2);
+                        fields[at] = self.any(roles[at]);
+                    }
+                }
+            }
+            _ => {}
+        }
+        if call == 3 && want == 8 {
+            // the TOA that is already recorded
+            if let Some(twa) = self.pick_live(|one| one.is_pending() && one.agreed.is_some()) {
+                let toa = twa.agreed.unwrap_or(AuthorityNumber(0));
+                fields[0] = toa.0;
+                fields[1] = twa.number.0;
+                fields[2] = self.pick_live(|one| one.number == toa).map_or(1, |one| one.officer);
+            }
+        }
+        [stamp.day, stamp.time, call, fields[0], fields[1], fields[2], fields[3]]
+    }
+
+    /// Several things wrong at once, whatever the answer may be.
+    fn muddled(&mut self, call: u16) -> [u16; 7] {
+        let roles = roles(call);
+        let mut fields = if self.rng.chance(50) { self.good_fields(call) } else { self.loose_fields(call) };
+        let mut stamp = self.stamp();
+        for _ in 0..1 + self.rng.below(3) {
+            let at = self.rng.below(4);
+            fields[at] = if self.rng.chance(10) { self.out_of_range(roles[at]) } else { self.any(roles[at]) };
+        }
+        match self.rng.below(20) {
+            0 => stamp = self.bad_stamp(),
+            1 => stamp = self.earlier_stamp(),
+            _ => {}
+        }
+        [stamp.day, stamp.time, call, fields[0], fields[1], fields[2], fields[3]]
+    }
+
+    fn no_such_call(&mut self) -> [u16; 7] {
+        let like = self.rng.between(1, 13);
+        let mut numbers = self.muddled(like);
+        numbers[2] = self.rng.pick(&[0, 0, 14, 14, 15, 16, 99, 256 + like, 65535]);
+        numbers
+    }
+
+    fn next_call(&mut self) -> [u16; 7] {
+        if self.rng.chance(1) {
+            return self.no_such_call();
+        }
+        let call = self.rng.weighted(&self.mood) as u16 + 1;
+        if self.rng.chance(8) {
+            return self.muddled(call);
+        }
+        let accept = if self.mood == EVEN { 50 } else { 65 };
+        let want = if self.rng.chance(accept) { 0 } else { self.rng.pick(refusals(call)) };
+        let mut numbers = self.candidate(call, want);
+        for _ in 0..12 {
+            if self.answer(&numbers) == want {
+                return numbers;
+            }
+            numbers = self.candidate(call, want);
+        }
+        // The board isn't ready for that call: mostly go on with one that helps.
+        if self.rng.chance(75) {
+            for _ in 0..6 {
+                let full = self.board.live.len() == MOST_LIVE;
+                let help = self.rng.pick(&[6, 6, 4, 4, 13, 12, 12, if full { 2 } else { 1 }]);
+                let other = self.candidate(help, 0);
+                if self.answer(&other) == 0 {
+                    return other;
+                }
+            }
+        }
+        numbers
+    }
+
+    fn apply(&mut self, numbers: &[u16; 7]) -> u16 {
+        self.board.call(numbers).0
+    }
+
+    /// A list of steered calls, in phases of different moods.
+    fn steer(&mut self, count: usize, list: &mut Vec<[u16; 7]>) {
+        let end = list.len() + count;
+        self.mood = BUILD;
+        let mut phase = 20 + self.rng.below(80);
+        while list.len() < end {
+            let full = self.mood == FILL && self.board.live.len() == MOST_LIVE;
+            if phase == 0 || (full && self.rng.chance(20)) {
+                self.mood = *self.rng.pick(&MOODS);
+                phase = 20 + self.rng.below(130);
+            }
+            phase -= 1;
+            let numbers = self.next_call();
+            self.apply(&numbers);
+            list.push(numbers);
+        }
+    }
+}
+
+/// The first and the last portion of limits.
+fn ends(limits: Portions) -> (u16, u16) {
+    (limits.0.trailing_zeros() as u16, 63 - limits.0.leading_zeros() as u16)
+}
+
+fn later(stamp: Stamp, minutes: usize) -> Stamp {
+    let clock = usize::from(stamp.time / 100 * 60 + stamp.time % 100) + minutes;
+    let day = usize::from(stamp.day) + clock / 1440;
+    if day > 9999 {
+        return Stamp { day: 9999, time: 2359 };
+    }
+    Stamp { day: day as u16, time: (clock % 1440 / 60 * 100 + clock % 60) as u16 }
+}
+
+// ---------------------------------------------------------------------------
+// The kinds of list
+// ---------------------------------------------------------------------------
+
+fn steered(mut rng: Rng) -> (Vec<u8>, Vec<u8>) {
+    let plan = Plan::random(&mut rng);
+    let count = match rng.below(10) {
+        0..=5 => 300 + rng.below(700),
+        6..=8 => 800 + rng.below(1200),
+        _ => 2000 + rng.below(2000),
+    };
+    let late = rng.chance(8);
+    let mut driver = Driver::new(rng, &plan);
+    let mut list = Vec::new();
+    if late {
+        // near the end of the days
+        let day = driver.rng.between(9990, 9999);
+        let numbers = [day, 2350, 1, 1, 0, 0, 1];
+        driver.apply(&numbers);
+        list.push(numbers);
+    }
+    driver.steer(count, &mut list);
+    (plan.text(), text_of(&list))
+}
+
+/// A list long enough that 9999 numbers are allotted.
+fn numbers(mut rng: Rng) -> (Vec<u8>, Vec<u8>) {
+    let plan = Plan::random(&mut rng);
+    let mut driver = Driver::new(rng, &plan);
+    driver.pace = 150;
+    driver.leaps = false;
+    let mut list = Vec::new();
+    driver.steer(200, &mut list);
+    while driver.board.last_number < LAST_NUMBER {
+        let numbers = if driver.rng.chance(3) {
+            driver.mood = EVEN;
+            driver.next_call()
+        } else {
+            // towards the end some are kept, and a place is kept free
+            let most = if driver.board.last_number < 9985 { 8 } else { 28 };
+            let call = if driver.board.live.len() < most {
+                1
+            } else if driver.board.live.iter().any(|one| one.is_pending()) {
+                2
+            } else {
+                driver.rng.pick(&[7, 10, 10])
+            };
+            driver.candidate(call, 0)
+        };
+        driver.apply(&numbers);
+        list.push(numbers);
+    }
+    driver.leaps = true;
+    driver.steer(600, &mut list);
+    (plan.text(), text_of(&list))
+}
+
+fn short(mut rng: Rng) -> (Vec<u8>, Vec<u8>) {
+    let plan = Plan::random(&mut rng);
+    let count = rng.below(6);
+    let mut driver = Driver::new(rng, &plan);
+    let mut list = Vec::new();
+    driver.steer(count, &mut list);
+    (plan.text(), text_of(&list))
+}
+
+/// Random numbers, mostly small.
+fn wild(mut rng: Rng) -> (Vec<u8>, Vec<u8>) {
+    let plan = Plan::random(&mut rng);
+    let count = 50 + rng.below(500);
+    let mut list = Vec::new();
+    for _ in 0..count {
+        let mut numbers = [0; 7];
+        for number in &mut numbers {
+            *number = match rng.below(40) {
+                0..=27 => rng.between(0, 2),
+                28..=35 => rng.between(0, 9),
+                36..=37 => rng.between(0, 99),
+                38 => rng.between(0, 10001),
+                _ => rng.between(0, 65535),
+            };
+        }
+        if rng.chance(85) {
+            numbers[0] = 0;
+        }
+        if rng.chance(90) {
+            numbers[2] = rng.between(1, 13);
+            let roles = roles(numbers[2]);
+            for (number, role) in numbers[3..].iter_mut().zip(roles) {
+                if role == Role::Unused && rng.chance(90) {
+                    *number = 0;
+                }
+            }
+        }
+        list.push(numbers);
+    }
+    (plan.text(), text_of(&list))
+}
+
+/// A valid list that is then damaged, in the calls or in the plan.
+fn damaged(mut rng: Rng) -> (Vec<u8>, Vec<u8>) {
+    let plan = Plan::random(&mut rng);
+    // mostly few, sometimes more than a program is likely to read at once
+    let count = if rng.chance(90) { 1 + rng.below(80) } else { 500 + rng.below(8000) };
+    let mut driver = Driver::new(rng, &plan);
+    let mut list = Vec::new();
+    driver.steer(count, &mut list);
+    let rng = &mut driver.rng;
+    let mut calls = text_of(&list);
+    let mut text = plan.text();
+    match rng.below(20) {
+        0..=5 => damage_columns(rng, &mut calls, CALL_LINE),
+        6..=9 => damage_lines(rng, &mut calls, CALL_LINE),
+        10..=11 => damage_columns(rng, &mut text, PLAN_LINE),
+        12 => damage_lines(rng, &mut text, PLAN_LINE),
+        _ => text = damaged_plan(rng, &plan),
+    }
+    (text, calls)
+}
+
+const ODD_BYTES: &[u8] = b" 0123456789\n\r\t\0-+.,abxX\xff\xb0";
+
+/// Spellings of a number that are wrong, or wrong most of the time.
+fn odd_columns(rng: &mut Rng, columns: &[u8]) -> Vec<u8> {
+    let number: u32 = String::from_utf8_lossy(columns).trim().parse().unwrap_or(0);
+    match rng.below(14) {
+        0 => format!("{number:06}"),
+        1 => format!("{:>6}", format!("0{number}")),
+        2 => format!("{number:<6}"),
+        3 => format!("{:<6}", format!(" {number}")),
+        4 => format!("{:>5} ", number % 100_000),
+        5 => format!("{:>6}", format!("+{number}")),
+        6 => format!("{:>6}", format!("-{number}")),
+        7 => "      ".to_string(),
+        8 => format!("{:6}", 65536 + number),
+        9 => format!("{:6}", rng.pick(&[65535, 65536, 65537, 70000, 99999, 100000, 131072, 655360, 999999])),
+        10 => format!("{:>6}", format!("{} {}", number / 10, number % 10)),
+        11 => "    00".to_string(),
+        12 => format!("{:>6}", format!("{number:x}a")),
+        _ => format!("{:6}", number + 1),
+    }
+    .into_bytes()
+    .into_iter()
+    .take(COLUMNS)
+    .collect()
+}
+
+/// One number of one line spelt wrong.
+fn damage_columns(rng: &mut Rng, text: &mut Vec<u8>, line: usize) {
+    let start = rng.below(text.len() / line) * line;
+    let column = start + rng.below(line / COLUMNS) * COLUMNS;
+    let odd = odd_columns(rng, &text[column..column + COLUMNS]);
+    text.splice(column..column + COLUMNS, odd);
+}
+
+/// Other damage that any text of lines can take.
+fn damage_lines(rng: &mut Rng, text: &mut Vec<u8>, line: usize) {
+    let at = rng.below(text.len());
+    let start = at / line * line;
+    match rng.below(12) {
+        0..=2 => text[at] = rng.pick(ODD_BYTES),
+        3 => {
+            let cut = 1 + rng.below(line - 1);
+            text.truncate(text.len() - cut);
+        }
+        // only the last line feed is missing
+        4 => text.truncate(text.len() - 1),
+        5..=6 => text[start + line - 1] = rng.pick(b" 0\r\0"),
+        7 => {
+            text.remove(at);
+        }
+        8 => text.insert(at, rng.pick(ODD_BYTES)),
+        9 => {
+            let more: &[u8] = rng.pick(&[&b"\n"[..], &b" "[..], &b"     0"[..], &b"     1     2\n"[..], &b"\0"[..]]);
+            text.extend_from_slice(more);
+        }
+        10 => {
+            // far too long
+            for _ in 0..4000 {
+                text.extend_from_slice(b"    99     0     1\n");
+            }
+        }
+        // a line feed in the middle of a line
+        _ => text[start + rng.below(line)] = b'\n',
+    }
+}
+
+/// A plan whose numbers are wrong, well written most of the time.
+fn damaged_plan(rng: &mut Rng, plan: &Plan) -> Vec<u8> {
+    let mut lines: Vec<[u32; 3]> = vec![[plan.portions.into(), plan.gates.len() as u32, 0]];
+    lines.extend(plan.gates.iter().map(|&[from, to, kind]| [from.into(), to.into(), kind.into()]));
+    let portions = u32::from(plan.portions);
+    if lines.len() == 1 && rng.chance(70) {
+        lines.push([99, 0, 1]);
+        lines[0][1] = 1;
+    }
+    let gate = if lines.len() > 1 { 1 + rng.below(lines.len() - 1) } else { 0 };
+    match rng.below(19) {
+        0 => lines[0][0] = rng.pick(&[0, 66, 99, 65535, 65536, 65536 + portions, 999999]),
+        1 => lines[0][1] += 1,
+        2 => lines[0][1] = lines[0][1].saturating_sub(1),
+        3 => lines[0][2] = rng.pick(&[1, 2, 65535, 65536, 999999]),
+        4 if gate > 0 => lines[gate][1] = lines[gate][0],
+        5 if gate > 0 => lines[gate] = [99, 99, 1],
+        6 if gate > 0 => lines[gate][0] = rng.pick(&[portions, portions, portions + 1, 98, 100, 65535, 65536 + 99]),
+        7 if gate > 0 => lines[gate][1] = rng.pick(&[portions, portions, portions + 1, 98, 100, 65536, 65536 + 99]),
+        8 if gate > 0 => lines[gate][2] = rng.pick(&[6, 99, 65536, 65537, 999999]),
+        9 => {
+            // 65 gates
+            while lines.len() < 66 {
+                lines.push([99, 0, 1]);
+            }
+            lines[0][1] = 65;
+        }
+        10 => {
+            // 64 gates: right, the longest plan
+            while lines.len() < 65 {
+                lines.push([99, 0, 1]);
+            }
+            lines[0][1] = 64;
+        }
+        11 => {
+            lines.pop();
+        }
+        12 => lines.push(rng.pick(&[[99, 0, 1], [0, 99, 4], [0, 0, 0]])),
+        13 => lines = vec![[0, 0, 0]],
+        14 => lines.clear(),
+        15 => lines[0][0] = 65,
+        16 if gate > 0 => lines[gate][2] = 0,
+        17 if gate > 0 => lines[gate][2] = 5,
+        _ => lines[0][0] = 64,
+    }
+    lines.into_iter().flat_map(plan_line).collect()
+}
+
+fn text_of(list: &[[u16; 7]]) -> Vec<u8> {
+    list.iter().flat_map(call_line).collect()
+}
+
+// ---------------------------------------------------------------------------
+// A busy board
+// ---------------------------------------------------------------------------
+
+const BUSY: Mood = [3, 3, 7, 8, 8, 6, 8, 8, 8, 4, 5, 24, 16];
+
+/// Writes as it goes, since the list may be long; prints to standard error how
+/// busy the board is at ten points.
+fn busy(mut rng: Rng, count: usize, folder: &Path) -> io::Result<()> {
+    let plan = Plan::busy(&mut rng);
+    fs::write(folder.join("plan"), plan.text())?;
+    let mut calls = BufWriter::with_capacity(1 << 18, File::create(folder.join("calls"))?);
+    let mut driver = Driver::new(rng, &plan);
+    driver.mood = BUSY;
+    driver.leaps = false;
+    // 10000 days of 1440 minutes, not quite used up
+    driver.pace = (13_000_000 * 1000 / count.max(1)).min(3000);
+    let (mut accepted, mut tenth, mut done) = (0, 1, 0);
+    for index in 0..count {
+        let numbers = busy_call(&mut driver, index, count);
+        if driver.apply(&numbers) == 0 {
+            accepted += 1;
+        }
+        calls.write_all(&call_line(&numbers))?;
+        if (index + 1) * 10 / count >= tenth {
+            let board = &driver.board;
+            let share = 100.0 * accepted as f64 / (index + 1 - done) as f64;
+            let in_force = board.live.iter().filter(|one| one.is_in_force()).count();
+            let led = board.trains.iter().filter(|train| train.with.is_some()).count();
+            eprintln!(
+                "after {:8} calls: {:2} live ({in_force} in force), {:2} trains ({led} with an authority), {:2} gates blocked, {:4} allotted, day {:4}, {share:.1}% of this tenth accepted",
+                index + 1,
+                board.live.len(),
+                board.trains.len(),
+                board.blocked.0.count_ones(),
+                board.last_number,
+                board.last_stamp.day,
+            );
+            (accepted, tenth, done) = (0, tenth + 1, index + 1);
+        }
+    }
+    calls.flush()
+}
+
+fn busy_call(driver: &mut Driver, index: usize, count: usize) -> [u16; 7] {
+    if driver.rng.below(400) == 0 {
+        return driver.no_such_call();
+    }
+    loop {
+        let call = driver.rng.weighted(&driver.mood) as u16 + 1;
+        let want = if driver.rng.chance(60) { 0 } else { driver.rng.pick(refusals(call)) };
+        for _ in 0..6 {
+            let numbers = if call == 1 && want == 0 { busy_request(driver) } else { driver.candidate(call, want) };
+            let answer = driver.answer(&numbers);
+            if answer == want && (answer != 0 || keeps_busy(driver, &numbers, index, count)) {
+                return numbers;
+            }
+        }
+        // nothing found: sometimes the call as it comes, if it is refused
+        let numbers = driver.muddled(call);
+        if driver.answer(&numbers) != 0 && driver.rng.chance(40) {
+            return numbers;
+        }
+    }
+}
+
+/// Short limits, half of the time where nothing is in force.
+fn busy_request(driver: &mut Driver) -> [u16; 7] {
+    let mut fields = driver.good_request();
+    for _ in 0..6 {
+        let first = driver.rng.between(0, 62);
+        let last = (first + driver.rng.between(0, 2)).min(63);
+        let limits = Portions::first_to_last(first, last);
+        let taken = driver.board.live.iter().any(|one| one.is_in_force() && one.limits.share(limits));
+        if !taken && !driver.board.is_touched(limits) {
+            if driver.rng.chance(60) || fields[2] - fields[1] > 6 {
+                fields = [fields[0], first, last, fields[3]];
+            }
+            break;
+        }
+    }
+    let stamp = driver.stamp();
+    [stamp.day, stamp.time, 1, fields[0], fields[1], fields[2], fields[3]]
+}
+
+/// Whether the board stays busy if this call is accepted: some 25 authorities
+/// live, half of them in force, some 20 trains, and numbers left to the end.
+fn keeps_busy(driver: &Driver, numbers: &[u16; 7], index: usize, count: usize) -> bool {
+    let board = &driver.board;
+    let live = board.live.len();
+    let in_force = board.live.iter().filter(|one| one.is_in_force()).count();
+    let pending = live - in_force;
+    let trains = board.trains.len();
+    match numbers[2] {
+        1 => {
+            let ration = 60 + 9900 * index / count;
+            live < 28 && usize::from(board.last_number) < ration
+        }
+        2 => live > 25 && pending > 9,
+        6 => in_force < 18,
+        10 => live > 25 && in_force > 11,
+        11 => live > 25,
+        12 => {
+            let Gate { from, to, .. } = *board.gate(GateNumber(numbers[4]));
+            (from != Place::Outside || trains < 22) && (to != Place::Outside || trains > 19)
+        }
+        _ => true,
+    }
+}
+
+// ---------------------------------------------------------------------------
+
+fn seeded(seed: u64, kind: &str) -> Rng {
+    let mut rng = Rng(seed.wrapping_mul(0xD134_2543_DE82_EF95));
+    for byte in kind.bytes() {
+        rng.0 = rng.0.wrapping_add(byte.into());
+        rng.next();
+    }
+    rng
+}
+
+fn run(arguments: &[String]) -> Result<(), String> {
+    let usage = "usage: generate SEED steered|numbers|damaged|short|wild OUTDIR, or generate SEED busy N OUTDIR";
+    let (seed, kind, folder) = match arguments {
+        [seed, kind, .., folder] => (seed, kind.as_str(), Path::new(folder)),
+        _ => return Err(usage.to_string()),
+    };
+    let rng = seeded(seed.parse().map_err(|_| usage)?, kind);
+    let (plan, calls) = match (kind, arguments.len()) {
+        ("steered", 3) => steered(rng),
+        ("numbers", 3) => numbers(rng),
+        ("damaged", 3) => damaged(rng),
+        ("short", 3) => short(rng),
+        ("wild", 3) => wild(rng),
+        ("busy", 4) => {
+            let count = arguments[2].parse().map_err(|_| usage)?;
+            return busy(rng, count, folder).map_err(|error| error.to_string());
+        }
+        _ => return Err(usage.to_string()),
+    };
+    let written = fs::write(folder.join("plan"), plan).and_then(|()| fs::write(folder.join("calls"), calls));
+    written.map_err(|error| error.to_string())
+}
+
+fn main() -> ExitCode {
+    let arguments: Vec<String> = std::env::args().skip(1).collect();
+    match run(&arguments) {
+        Ok(()) => ExitCode::SUCCESS,
+        Err(message) => {
+            eprintln!("{message}");
+            ExitCode::FAILURE
+        }
+    }
+}

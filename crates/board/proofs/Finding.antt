@@ -1,0 +1,55 @@
+-- The answer to a call: the first refusal of its list that holds, and what the search for an authority says of `live` and `authority`.
+-- Assumes nothing.
+use Prim.Native.Nat.{ℕ}
+use mathlib.Core.Path.{_≡_, refl, sym, _∙_}
+use mathlib.Core.Bool.{Bool, true, false, not}
+use mathlib.Core.List.{List, [], _∷_}
+use borrow.Author.Tests.{eq-eqb, ne-eqb}
+use Rattle.rules.specs.declared.Authority.{Authority}
+use Rattle.rules.specs.declared.AuthorityNo.{AuthorityNo}
+use Rattle.rules.specs.declared.Register.{Register}
+use Rattle.rules.specs.Board.{boardOf, live, authority}
+use Rattle.rules.specs.Refusals.{Refusal, _when_, lowest, notLive}
+use Rattle.held.specs.declared.authorities.Query.the-variants.{Number}
+use Rattle.held.specs.declared.authorities.Found.{Found}
+use Rattle.held.specs.declared.authorities.Found.the-variants.{Is, Nothing}
+use Rattle.held.specs.Authorities.{passesOf, foundIn}
+use Rattle.held.proofs.AuthorityLaws.{found-none, found-is}
+
+-- ---- the first refusal that holds
+
+pub holds : (n : ℕ) (t : Bool) (rs : List Refusal) → t ≡ true → n ≡ lowest (n when t ∷ rs)
+unfolding lowest
+holds n t rs e = rw e
+
+pub fails : (n m : ℕ) (t : Bool) (rs : List Refusal) → t ≡ false → m ≡ lowest rs → m ≡ lowest (n when t ∷ rs)
+unfolding lowest
+fails n m t rs e l = rw e l
+
+pub none : 0 ≡ lowest []
+unfolding lowest
+none = refl
+
+pub not-of-false : (t : Bool) → t ≡ false → not t ≡ true
+not-of-false t e = rw e
+
+pub not-of-true : (t : Bool) → t ≡ true → not t ≡ false
+not-of-true t e = rw e
+
+-- a test that a called function made
+pub of-call : {s t v : Bool} → s ≡ t → s ≡ v → t ≡ v
+of-call e f = sym e ∙ f
+
+-- for `search`: an answer that is the lowest refusal of a list, or 0, from the flags on the way
+pub ruleset refusals = (holds, fails, none, not-of-false, not-of-true, of-call, eq-eqb, ne-eqb)
+
+-- ---- the authority with a number, looked for
+
+module _ (r : Register) (n : AuthorityNo) {f : Found} (e : f ≡ foundIn (passesOf (Number n)) (boardOf r .authorities)) where
+  pub not-found : f ≡ Nothing → notLive (boardOf r) (n .0) ≡ true
+  unfolding notLive live passesOf
+  not-found none′ = rw (found-none _ _ (sym e ∙ none′))
+
+  pub found : {a : Authority} → f ≡ Is a → (notLive (boardOf r) (n .0) ≡ false) × (authority (boardOf r) (n .0) ≡ a)
+  unfolding notLive live authority passesOf
+  found is = let h = found-is _ _ (sym e ∙ is) in (rw (h .0), h .1)

@@ -1,0 +1,8 @@
+-- The laws that the functions' proofs cite, and the run of a board over the functions themselves.
+pub mod Taking
+pub mod Opening
+pub mod Writing
+pub mod Conditions
+pub mod Changing
+pub mod Finding
+pub mod Ran

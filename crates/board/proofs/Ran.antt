@@ -1,0 +1,112 @@
+-- The run of a board, over the functions themselves: a step of `Ran` is the plain reading that Rattle makes of what `open` or `call`
+-- ensures, at any argument: any plan text, any seven numbers, any buffer. Nothing else is known of a step. Demands 1, 2 and 3 are
+-- theorems about every `Ran`. Assumes nothing.
+use Prim.Native.Nat.{ℕ, _≤_, _<_}
+use mathlib.Core.Path.{_≡_, refl, sym, ap, ap₂, subst, _∙_}
+use mathlib.Core.List.{List, [], _∷_, _++_}
+use lib.ListN.{length, drop}
+use contract.Lifetimes.{Lfts}
+use denote.Ref.{now}
+use denote.Triple.Clauses.{AtExit}
+use borrow.Fn.Kinds.{Dens, endedOf}
+use Rattle.rules.specs.declared.Seven.{Seven}
+use Rattle.rules.specs.declared.Opened.{Opened}
+use Rattle.rules.specs.declared.Called.{Called}
+use Rattle.rules.specs.declared.Register.{Register}
+use Rattle.rules.specs.Board.{Board, boardOf, Same}
+use Rattle.rules.specs.Plan.{openBoard}
+use Rattle.rules.specs.Refusals.{conditions, answer}
+use Rattle.rules.specs.Journal.{journalLine}
+use Rattle.rules.specs.Step.{Made, Answered, after, trace, final, Kept, CallPost}
+use Rattle.rules.specs.Reckoning.{start, reckoned}
+use Rattle.rules.specs.Claim.{Safe}
+use Rattle.rules.proofs.Answers.{NoneHolds, Refused, accepted-none, none-accepted, refused-lowest, lowest-refused, refused-same, refused-none, short-line, long-line}
+use Rattle.rules.proofs.Equality.{equal-same}
+use Rattle.rules.proofs.Safety.{demand-3}
+use Rattle.rules.proofs.Traces.{trace-snoc, final-snoc}
+use Rattle.board.proofs.entry.open.Kinds as open-kinds
+use Rattle.board.proofs.entry.open.Reads as open-reads
+use Rattle.board.proofs.entry.call.Kinds as call-kinds
+use Rattle.board.proofs.entry.call.Reads as call-reads
+
+abbrev pub made : Seven → List ℕ → Made
+made s buffer = record { seven = s; room = length buffer }
+
+abbrev pub answered : Seven → ℕ → Answered
+answered s a = record { seven = s; answer = a }
+
+-- a board opened from a text and a list of calls made on it, in order, with their answers, and the register that the last one returned
+pub data Ran : List ℕ → List Made → List Answered → Register → Type 0 where
+  ran-open : (κs : Lfts 1) (a : Dens κs open-kinds.ps) (r : Opened) (x : AtExit (endedOf 1 open-kinds.ps open-kinds.r) κs) → open-reads.Post κs a r x
+      → Ran (now (a .0)) [] [] (r .register)
+  ran-call : {text : List ℕ} {ms : List Made} {cs : List Answered} (κs : Lfts 1) (a : Dens κs call-kinds.ps) (out : Called)
+      (x : AtExit (endedOf 1 call-kinds.ps call-kinds.r) κs) → Ran text ms cs (a .0) → call-reads.Post κs a out x
+      → Ran text (ms ++ (made (a .1 .0) (now (a .1 .1 .0)) ∷ [])) (cs ++ (answered (a .1 .0) (out .answer) ∷ [])) (out .register)
+
+-- ---- what `call` requires always holds
+
+pub ran-kept : {text : List ℕ} {ms : List Made} {cs : List Answered} {r : Register} → Ran text ms cs r → Kept r
+ran-kept (ran-open κs a r x p) = p .kept
+ran-kept (ran-call κs a out x h p) = p .kept
+
+-- THEOREM: after any run the next call's `requires` holds
+pub ran-asked : {text : List ℕ} {ms : List Made} {cs : List Answered} (κs : Lfts 1) (a : Dens κs call-kinds.ps) → Ran text ms cs (a .0) → call-reads.Pre κs a
+ran-asked κs a h = ran-kept h
+
+-- ---- a run gives the answers and the boards of the rules
+
+pub ran-board : {text : List ℕ} {ms : List Made} {cs : List Answered} {r : Register} → Ran text ms cs r → boardOf r ≡ final (openBoard text) ms
+unfolding final
+ran-board (ran-open κs a r x p) = p .board
+ran-board {text} (ran-call {ms = ms} κs a out x h p) =
+    let m : Made = made (a .1 .0) (now (a .1 .1 .0)) in
+    p .board ∙ ap (λ (b : Board). after b (m .seven) (m .room)) (ran-board h) ∙ sym (final-snoc (openBoard text) ms m)
+
+-- THEOREM: the answers of a run are those of `trace`
+pub ran-trace : {text : List ℕ} {ms : List Made} {cs : List Answered} {r : Register} → Ran text ms cs r → cs ≡ trace (openBoard text) ms
+unfolding trace
+ran-trace (ran-open κs a r x p) = refl
+ran-trace {text} (ran-call {ms = ms} {cs = cs} κs a out x h p) =
+    let m : Made = made (a .1 .0) (now (a .1 .1 .0)) in
+    let e : out .answer ≡ answer (final (openBoard text) ms) (m .seven) (m .room) =
+    p .answered ∙ ap (λ (b : Board). answer b (m .seven) (m .room)) (ran-board h) in
+    ap₂ (λ (l : List Answered) (k : ℕ). l ++ (answered (m .seven) k ∷ [])) (ran-trace h) e ∙ sym (trace-snoc (openBoard text) ms m)
+
+-- ---- demand 3, one claim about the whole list
+
+-- THEOREM, demand 3: after every list of calls on a board opened from any plan text, what is reckoned from the calls and their answers is safe
+pub ran-safe : {text : List ℕ} {ms : List Made} {cs : List Answered} {r : Register} → Ran text ms cs r
+    → Safe (openBoard text .gates) (reckoned (openBoard text .gates) start cs)
+ran-safe {text} {ms} h =
+    subst (λ (l : List Answered). Safe (openBoard text .gates) (reckoned (openBoard text .gates) start l)) (sym (ran-trace h)) (demand-3 text ms)
+
+-- ---- demands 1 and 2, of the next call of any run: its register, seven numbers, buffer, result and buffer afterwards
+
+module _ (before : Register) (s : Seven) (buffer buffer′ : List ℕ) (out : Called) (p : CallPost before s buffer out buffer′) where
+  abbrev b : Board
+  b = boardOf before
+
+  abbrev room : ℕ
+  room = length buffer
+
+  -- demand 2: accepted if and only if no condition holds; refused with n if and only if condition n holds and none lower does
+  pub accepted-iff : (out .answer ≡ 0 → NoneHolds (conditions b s room)) × (NoneHolds (conditions b s room) → out .answer ≡ 0)
+  accepted-iff = (λ e. accepted-none b s room (sym (p .answered) ∙ e), λ h. p .answered ∙ none-accepted b s room h)
+
+  pub refused-iff : (n : ℕ) → (0 < n → out .answer ≡ n → Refused n (conditions b s room)) × (Refused n (conditions b s room) → out .answer ≡ n)
+  refused-iff n = (λ h e. refused-lowest b s room n (sym (p .answered) ∙ e) h, λ h. p .answered ∙ lowest-refused b s room n h)
+
+  -- demand 1: what a call returns and writes is 01's; a refused one returns the register as it was, and authority number 0
+  pub returns-same : Same (boardOf (out .register)) (after b s room)
+  returns-same = equal-same (boardOf (out .register)) (after b s room) (p .board)
+
+  pub refused-keeps : (out .answer ≡ 0 → ⊥) → (boardOf (out .register) ≡ b) × (out .number ≡ 0)
+  refused-keeps h =
+      let no : answer b s room ≡ 0 → ⊥ = λ z. h (p .answered ∙ z) in
+      (p .board ∙ refused-same b s room no, p .number ∙ refused-none b s room no)
+
+  pub short-stays : room < 55 → buffer′ ≡ buffer
+  short-stays h = p .line ∙ short-line s (out .answer) (out .number) buffer h
+
+  pub long-written : 55 ≤ room → buffer′ ≡ journalLine s (out .answer) (out .number) ++ drop 55 buffer
+  long-written h = p .line ∙ long-line s (out .answer) (out .number) buffer h

@@ -1,0 +1,207 @@
+-- A whole call in the steps of the code: what the decoded call says of the answer, and what a call leaves. Assumes nothing.
+use Prim.Native.Nat.{ℕ, suc, _+_, _≤_, _<_}
+use native.Mathlib.Omega.{arith}
+use native.Mathlib.Numerals.{add-one}
+use mathlib.Core.Path.{_≡_, refl, sym, ap, subst, _∙_}
+use mathlib.Core.Bool.{Bool, true, false, cond}
+use mathlib.Core.List.{List, _∷_, _++_}
+use lib.ListN.{length, drop}
+use lib.Dec.{eqb, ltb}
+use borrow.Author.Tests.{eq-eqb, ne-eqb, le-ltb}
+use Rattle.lists.specs.Prefix.{prefix}
+use Rattle.lists.proofs.Prefix.{length-prefix}
+use Rattle.rules.specs.declared.Seven.{Seven}
+use Rattle.rules.specs.declared.Call.{Call}
+use Rattle.rules.specs.declared.Call.the-variants.{NoSuchCall, BadField, Request, Withdraw, Agree, Block, Unblock, Grant, Clear, Reoccupy, HandOver, Fulfil, Continue, Move, Passed}
+use Rattle.rules.specs.declared.Called.{Called}
+use Rattle.rules.specs.declared.Register.{Register}
+use Rattle.rules.specs.Board.{Board, boardOf, withStamp}
+use Rattle.rules.specs.Call.{isCall, inRanges, named, decoded}
+use Rattle.rules.specs.Refusals.{_when_, lowest, early, own, conditions, answer}
+use Rattle.rules.specs.Effects.{effect}
+use Rattle.rules.specs.Journal.{journalLine}
+use Rattle.rules.specs.Step.{Bounds, Kept, Once, after, allotted, CallPost}
+use Rattle.rules.proofs.Accepted.{Ranges, in-ranges}
+use Rattle.rules.proofs.Answers.{refused-same, refused-none, short-answer, short-line, long-line}
+use Rattle.rules.proofs.Once.{once-after}
+use Rattle.board.specs.Faults.{faultOf, withRoom}
+use Rattle.board.specs.Effects.{EffectPost, TakePost}
+
+-- ---- what the decoded call says of the answer
+
+-- a call whose number and fields are in their ranges has no fault
+no-fault : (b : Board) (c : Call) → Ranges b c → faultOf c ≡ 0
+unfolding faultOf
+no-fault b NoSuchCall k = absurd k
+no-fault b BadField k = absurd k
+no-fault b (Request kind first last officer) k = refl
+no-fault b (Withdraw n officer) k = refl
+no-fault b (Agree toa twa officer) k = refl
+no-fault b (Block g) k = refl
+no-fault b (Unblock g) k = refl
+no-fault b (Grant n officer) k = refl
+no-fault b (Clear n officer) k = refl
+no-fault b (Reoccupy n officer) k = refl
+no-fault b (HandOver n out into) k = refl
+no-fault b (Fulfil n officer assurances) k = refl
+no-fault b (Continue old new officerOld officerNew) k = refl
+no-fault b (Move t g n officer) k = refl
+no-fault b (Passed t) k = refl
+
+-- the call that the seven numbers are, with its fault and its answer where the buffer is long enough
+pub data Decoded (b : Board) (s : Seven) (c : Call) : Type 0 where
+  faulty : (faultOf c ≡ 0 → ⊥) → faultOf c ≡ withRoom b s → Decoded b s c
+  sound : faultOf c ≡ 0 → c ≡ named s → withRoom b s ≡ lowest (4 when early b s ∷ own b s c) → Decoded b s c
+
+decoded-cases : (b : Board) (s : Seven) (x y : Bool) → isCall (s .call) ≡ x → inRanges (b .portions) (length (b .gates)) s ≡ y
+    → Decoded b s (cond x (cond y (named s) BadField) NoSuchCall)
+unfolding faultOf answer conditions lowest
+decoded-cases b s false y e f = faulty (λ z. omega arith) (rw e)
+decoded-cases b s true false e f = faulty (λ z. omega arith) (rw (e, f))
+decoded-cases b s true true e f = sound (no-fault b (named s) (in-ranges b s e f)) refl (rw (e, f))
+
+pub is-decoded : (b : Board) (s : Seven) (P G : ℕ) (c : Call) → P ≡ b .portions → G ≡ length (b .gates) → c ≡ decoded P G s → Decoded b s c
+unfolding decoded
+is-decoded b s P G c p g e =
+    subst (Decoded b s) (sym (e ∙ ap (λ (k : ℕ). decoded k G s) p ∙ ap (λ (k : ℕ). decoded (b .portions) k s) g))
+    (decoded-cases b s (isCall (s .call)) (inRanges (b .portions) (length (b .gates)) s) refl refl)
+
+-- the board's gates are as many as the register says
+pub gate-count : (r : Register) → Bounds r → length (r .gates) ≡ 64 → r .«gate_count» ≡ length (boardOf r .gates)
+unfolding boardOf
+gate-count r h l = sym (length-prefix (r .gates) (r .«gate_count») (omega (arith, h .gates)))
+
+pub fault-answer : {b : Board} {s : Seven} {c : Call} → Decoded b s c → (faultOf c ≡ 0 → ⊥) → faultOf c ≡ withRoom b s
+fault-answer (faulty z e) h = e
+fault-answer (sound z n e) h = absurd (h z)
+
+pub early-answer : {b : Board} {s : Seven} {c : Call} → Decoded b s c → faultOf c ≡ 0 → early b s ≡ true → 4 ≡ withRoom b s
+unfolding lowest
+early-answer (faulty z e) h l = absurd (z h)
+early-answer (sound z n e) h l = sym (e ∙ rw l)
+
+pub own-answer : {b : Board} {s : Seven} {c : Call} → Decoded b s c → faultOf c ≡ 0 → early b s ≡ false → lowest (own b s c) ≡ withRoom b s
+unfolding lowest
+own-answer (faulty z e) h l = absurd (z h)
+own-answer (sound z n e) h l = sym (e ∙ rw l)
+
+-- ---- a buffer long enough is as good as one of 55 bytes
+
+pub room-answer : (b : Board) (s : Seven) (room : ℕ) → 55 ≤ room → answer b s room ≡ withRoom b s
+unfolding answer conditions lowest
+room-answer b s room h = rw (le-ltb room 55 h)
+
+room-after : (b : Board) (s : Seven) (room : ℕ) → 55 ≤ room → after b s room ≡ after b s 55
+unfolding after
+room-after b s room h = rw (room-answer b s room h)
+
+room-allotted : (b : Board) (s : Seven) (room : ℕ) → 55 ≤ room → allotted b s room ≡ allotted b s 55
+unfolding allotted
+room-allotted b s room h = rw (room-answer b s room h)
+
+-- ---- what a call with room for its line leaves
+
+pub taken-refused : (r : Register) (s : Seven) (refusal : ℕ) → Kept r → refusal ≡ withRoom (boardOf r) s → (refusal ≡ 0 → ⊥)
+    → TakePost r s (record { register = r; answer = refusal; number = 0 })
+taken-refused r s refusal k e n =
+    let no : withRoom (boardOf r) s ≡ 0 → ⊥ = λ z. n (e ∙ z) in
+    record {
+      board = sym (refused-same (boardOf r) s 55 no);
+      answered = e;
+      number = sym (refused-none (boardOf r) s 55 no);
+      kept = k;
+    }
+
+-- the register with another stamp
+abbrev pub stamped : ℕ → ℕ → Register → Register
+stamped day time r = record {
+  portions = r .portions;
+  «gate_count» = r .«gate_count»;
+  gates = r .gates;
+  day = day;
+  time = time;
+  last = r .last;
+  blocks = r .blocks;
+  live = r .live;
+  authorities = r .authorities;
+  running = r .running;
+  trains = r .trains;
+}
+
+number-is : (b : Board) (s : Seven) (n : ℕ) → withRoom b s ≡ 0 → n ≡ cond (eqb (s .call) 1) (suc (b .last)) 0 → n ≡ allotted b s 55
+unfolding allotted
+number-is b s n z e = e ∙ rw (eq-eqb (answer b s 55) 0 z)
+
+pub taken-accepted : (r : Register) (s : Seven) (c : Call) (out : Register) (n : ℕ) → Kept r → c ≡ named s → withRoom (boardOf r) s ≡ 0
+    → EffectPost r c out → n ≡ cond (eqb (s .call) 1) (suc (boardOf r .last)) 0
+    → TakePost r s (record { register = stamped (s .day) (s .time) out; answer = 0; number = n })
+unfolding boardOf
+taken-accepted r s c out n k e z p m =
+    let b : Board = boardOf r in
+    let is : withStamp (s .day) (s .time) (boardOf out) ≡ after b s 55 = accepted-after b s (boardOf out) z (p .board ∙ ap (effect b) e) in
+    record {
+      board = is;
+      answered = sym z;
+      number = number-is b s n z m;
+      kept = record {
+        bounds = record { portions = p .bounds .portions; gates = p .bounds .gates; live = p .bounds .live; running = p .bounds .running };
+        once = subst Once (sym is) (once-after b s 55 (k .once));
+      };
+    }
+  where
+    accepted-after : (b : Board) (s : Seven) (d : Board) → withRoom b s ≡ 0 → d ≡ effect b (named s) → withStamp (s .day) (s .time) d ≡ after b s 55
+    accepted-after b s d z e = unfold after in rw (eq-eqb (answer b s 55) 0 z, e)
+
+-- ---- the whole call
+
+pub called-short : (r : Register) (s : Seven) (buffer : List ℕ) → Kept r → length buffer < 55
+    → CallPost r s buffer (record { register = r; answer = 1; number = 0 }) buffer
+called-short r s buffer k h =
+    let one : answer (boardOf r) s (length buffer) ≡ 1 = short-answer (boardOf r) s (length buffer) h in
+    let no : answer (boardOf r) s (length buffer) ≡ 0 → ⊥ = λ z. omega arith in
+    record {
+      board = sym (refused-same (boardOf r) s (length buffer) no);
+      answered = sym one;
+      number = sym (refused-none (boardOf r) s (length buffer) no);
+      line = sym (short-line s 1 0 buffer h);
+      kept = k;
+    }
+
+pub called-long : (r : Register) (s : Seven) (buffer buffer′ : List ℕ) (out : Called) → 55 ≤ length buffer → TakePost r s out
+    → buffer′ ≡ journalLine s (out .answer) (out .number) ++ drop 55 buffer → CallPost r s buffer out buffer′
+called-long r s buffer buffer′ out h p e = record {
+  board = p .board ∙ sym (room-after (boardOf r) s (length buffer) h);
+  answered = p .answered ∙ sym (room-answer (boardOf r) s (length buffer) h);
+  number = p .number ∙ sym (room-allotted (boardOf r) s (length buffer) h);
+  line = e ∙ sym (long-line s (out .answer) (out .number) buffer h);
+  kept = p .kept;
+}
+
+-- ---- the same at a register, as the functions' proofs cite it
+
+pub register-decoded : (r : Register) (s : Seven) (c : Call) → Bounds r → length (r .gates) ≡ 64
+    → c ≡ decoded (r .portions) (r .«gate_count») s → Decoded (boardOf r) s c
+unfolding boardOf
+register-decoded r s c h l e = is-decoded (boardOf r) s (r .portions) (r .«gate_count») c refl (gate-count r h l) e
+
+-- an accepted call is the one named, and none of its own conditions holds
+own-zero : (b : Board) (s : Seven) (c : Call) (x : Bool) → early b s ≡ x → withRoom b s ≡ lowest (4 when x ∷ own b s c) → withRoom b s ≡ 0
+    → lowest (own b s c) ≡ 0
+unfolding lowest
+own-zero b s c true e f z = absurd (omega (arith, sym f ∙ z))
+own-zero b s c false e f z = sym f ∙ z
+
+pub accepted-own : {b : Board} {s : Seven} {c : Call} → Decoded b s c → withRoom b s ≡ 0 → (c ≡ named s) × (lowest (own b s c) ≡ 0)
+accepted-own (faulty n e) z = absurd (n (e ∙ z))
+accepted-own {b} {s} {c} (sound n m e) z = (m, own-zero b s c (early b s) refl e z)
+
+pub last-small : (r : Register) → Kept r → r .last ≤ 9999
+unfolding boardOf
+last-small r k = k .once .last
+
+pub number-one : (r : Register) (s : Seven) → s .call ≡ 1 → r .last + 1 ≡ cond (eqb (s .call) 1) (suc (boardOf r .last)) 0
+unfolding boardOf
+number-one r s e = rw (eq-eqb (s .call) 1 e) (add-one (r .last))
+
+pub number-none : (r : Register) (s : Seven) → (s .call ≡ 1 → ⊥) → 0 ≡ cond (eqb (s .call) 1) (suc (boardOf r .last)) 0
+number-none r s h = rw (ne-eqb (s .call) 1 h)

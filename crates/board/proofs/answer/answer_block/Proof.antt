@@ -1,0 +1,43 @@
+use Rattle.rules.specs.Board.{boardOf}
+use Rattle.rules.specs.Refusals.{lowest}
+use borrow.Author.Tests.{eq-eqb, ne-eqb}
+use borrow.Author.Needs.{needs}
+use Rattle.board.proofs.answer.answer_block.Statement.{statement}
+use Rattle.board.proofs.answer.answer_block.Tie as tie
+use Rattle.board.proofs.answer.answer_block.Reads as reads
+use Rattle.board.proofs.answer.answer_block.Lts as lts
+use Rattle.board.proofs.condition.gate_at.Reads as gate-at-reads
+use Rattle.portions.proofs.has.Reads as has-reads
+
+has-requires : tie.Need-has-requires
+has-requires c κs = search needs
+
+returns : tie.Need-returns
+unfolding boardOf lowest
+returns c = rw (← c .before .has .ensures, c .if1 .taken)
+
+gate-at-requires : tie.Need-gate-at-requires
+gate-at-requires c κs = search needs
+
+returns-2 : tie.Need-returns-2
+unfolding boardOf lowest
+returns-2 c =
+    rw (
+      ← c .before .before .before .before .has .ensures,
+      c .before .before .before .if1 .left,
+      ← c .before .before .gate-at .ensures,
+      eq-eqb _ _ (c .if2 .taken),
+    )
+
+returns-3 : tie.Need-returns-3
+unfolding boardOf lowest
+returns-3 c =
+    rw (
+      ← c .before .before .before .before .has .ensures,
+      c .before .before .before .if1 .left,
+      ← c .before .before .gate-at .ensures,
+      ne-eqb _ _ (c .if2 .left),
+    )
+
+pub answer-block-spec : {M : Type 1} → statement M
+answer-block-spec = tie.close (tie.spec has-requires returns gate-at-requires returns-2 returns-3)

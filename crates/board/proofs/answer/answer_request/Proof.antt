@@ -1,0 +1,19 @@
+use Rattle.board.proofs.Finding.{refusals}
+use borrow.Author.Needs.{needs}
+use Rattle.board.proofs.answer.answer_request.Statement.{statement}
+use Rattle.board.proofs.answer.answer_request.Tie as tie
+use Rattle.board.proofs.answer.answer_request.Reads as reads
+use Rattle.board.proofs.answer.answer_request.Lts as lts
+use Rattle.board.proofs.condition.is_full.Reads as is-full-reads
+
+is-full-requires : tie.Need-is-full-requires
+is-full-requires c κs = search needs
+
+returns : tie.Need-returns
+returns c = search refusals
+
+returns-2 : tie.Need-returns-2
+returns-2 c = search refusals
+
+pub answer-request-spec : {M : Type 1} → statement M
+answer-request-spec = tie.close (tie.spec is-full-requires returns returns-2)

@@ -1,0 +1,17 @@
+use Rattle.board.proofs.Finding.{refusals}
+use Rattle.board.proofs.decide.decide_withdraw.Statement.{statement}
+use Rattle.board.proofs.decide.decide_withdraw.Tie as tie
+use Rattle.board.proofs.decide.decide_withdraw.Reads as reads
+use Rattle.board.proofs.decide.decide_withdraw.Lts as lts
+
+returns : tie.Need-returns
+returns c = search refusals
+
+returns-2 : tie.Need-returns-2
+returns-2 c = search refusals
+
+returns-3 : tie.Need-returns-3
+returns-3 c = search refusals
+
+pub decide-withdraw-spec : {M : Type 1} → statement M
+decide-withdraw-spec = tie.close (tie.spec returns returns-2 returns-3)

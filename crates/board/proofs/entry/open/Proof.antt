@@ -1,0 +1,27 @@
+use borrow.Author.Needs.{needs}
+use Rattle.board.proofs.Opening.{plan-read, plan-refused, opened-post}
+use Rattle.board.proofs.entry.open.Statement.{statement}
+use Rattle.board.proofs.entry.open.Tie as tie
+use Rattle.board.proofs.entry.open.Reads as reads
+use Rattle.board.proofs.entry.open.Lts as lts
+use Rattle.board.proofs.entry.fresh.Reads as fresh-reads
+use Rattle.plan.proofs.read_plan.Reads as read-plan-reads
+
+read-plan-requires : tie.Need-read-plan-requires
+read-plan-requires c κs = search needs
+
+fresh-requires : tie.Need-fresh-requires
+fresh-requires c κs = search needs
+
+returns : tie.Need-returns
+returns c =
+    let p = c .before .before .before .read-plan in
+    opened-post _ (p .result) _ 0 (p .ensures) (c .before .fresh .ensures) (plan-read _ (p .result) (p .ensures) (c .if1 .taken))
+
+returns-2 : tie.Need-returns-2
+returns-2 c =
+    let p = c .before .before .before .read-plan in
+    opened-post _ (p .result) _ 20 (p .ensures) (c .before .fresh .ensures) (plan-refused _ (p .result) (p .ensures) (c .if1 .left))
+
+pub open-spec : {M : Type 1} → statement M
+open-spec = tie.close (tie.spec read-plan-requires fresh-requires returns returns-2)

@@ -1,0 +1,3 @@
+-- What the contracts of this crate's private functions cite beside the rules.
+pub mod Faults
+pub mod Effects

@@ -1,0 +1,171 @@
+// The two entries: open and call.
+ghost use mathlib.Core.Path.{_≡_};
+ghost use mathlib.Core.List.{_++_};
+ghost use Prim.Native.Nat.{_≤_};
+ghost use lib.ListN.{length, drop};
+ghost use Rattle.rules.specs.Journal.{journalLine};
+ghost use Rattle.rules.specs.Board.{boardOf};
+ghost use Rattle.rules.specs.Call.{decoded};
+ghost use Rattle.rules.specs.Step.{Bounds, Kept, OpenPost, CallPost};
+ghost use Rattle.board.specs.Faults.{withRoom};
+ghost use Rattle.board.specs.Effects.{freshWith, TakePost};
+use crate::answer::answer_of;
+use crate::answer::fault_of;
+use crate::condition::is_early;
+use crate::effect::effect_of;
+use crate::refusal::CLOCK;
+use crate::refusal::PLAN;
+use crate::refusal::SHORT_LINE;
+use rules::Authority;
+use rules::AuthorityNo;
+use rules::Call;
+use rules::Called;
+use rules::Gate;
+use rules::Kind;
+use rules::Opened;
+use rules::Register;
+use rules::Seven;
+use rules::Train;
+use rules::TrainNo;
+
+// A freshly opened board.
+fn fresh(portions: u16, gate_count: usize, gates: [Gate; 64]) -> Register
+    ensures { λ r. ⌜ r ≡ freshWith portions «gate_count» gates ⌝ }
+{
+    let none = AuthorityNo(0);
+    let no_authority = Authority {
+        number: none,
+        kind: Kind::Lpa,
+        limits: 0,
+        officer: 0,
+        in_force: false,
+        workers_on: false,
+        agreed: none,
+    };
+    let no_train = Train {
+        number: TrainNo(0),
+        head: 0,
+        rear: 0,
+        with: none,
+    };
+    Register {
+        portions,
+        gate_count,
+        gates,
+        day: 0,
+        time: 0,
+        last: 0,
+        blocks: 0,
+        live: 0,
+        authorities: [no_authority; 32],
+        running: 0,
+        trains: [no_train; 32],
+    }
+}
+
+// Opens a board from a plan's text, of any bytes and any length: 0, or 20 with the closed board.
+pub fn open(text: &[u8]) -> Opened
+    ensures { λ r. ⌜ OpenPost (now (text .entry)) r ⌝ }
+{
+    let p = plan::read_plan(text);
+    let gates = p.gates;
+    let register = fresh(p.portions, p.gate_count, gates);
+    if p.ok {
+        return Opened {
+            register,
+            answer: 0,
+        };
+    }
+    Opened {
+        register,
+        answer: PLAN,
+    }
+}
+
+// The answer to a call that has room for its line.
+fn answer(r: Register, s: Seven, c: Call) -> u16
+    requires { ⌜ Bounds r × (c ≡ decoded (r .portions) (r .«gate_count») s) ⌝ }
+    ensures { λ x. ⌜ x ≡ withRoom (boardOf r) s ⌝ }
+{
+    let fault = fault_of(c);
+    if fault != 0 {
+        return fault;
+    }
+    if is_early(r, s) {
+        return CLOCK;
+    }
+    answer_of(r, s, c)
+}
+
+// A call that has room for its line.
+fn take(r: Register, s: Seven) -> Called
+    requires { ⌜ Kept r ⌝ }
+    ensures { λ out. ⌜ TakePost r s out ⌝ }
+{
+    let c = decode::decode(r.portions, r.gate_count, s);
+    let refusal = answer(r, s, c);
+    if refusal != 0 {
+        return Called {
+            register: r,
+            answer: refusal,
+            number: 0,
+        };
+    }
+    let mut register = effect_of(r, s, c);
+    register.day = s.day;
+    register.time = s.time;
+    if s.call == 1 {
+        return Called {
+            register,
+            answer: 0,
+            number: r.last + 1,
+        };
+    }
+    Called {
+        register,
+        answer: 0,
+        number: 0,
+    }
+}
+
+fn wide(n: u16) -> u32
+    ensures { λ r. ⌜ r ≡ n ⌝ }
+{
+    n as u32
+}
+
+// Fills the first 55 bytes with the journal line; later bytes stay.
+fn write_journal(line: &mut [u8], s: Seven, answer: u16, number: u16)
+    requires { ⌜ 55 ≤ length (now line) ⌝ }
+    ensures { λ _. ⌜ now (line .exit) ≡ journalLine s answer number ++ drop 55 (now (line .entry)) ⌝ }
+{
+    let nine = [
+        wide(s.day),
+        wide(s.time),
+        wide(s.call),
+        wide(s.a),
+        wide(s.b),
+        wide(s.c),
+        wide(s.d),
+        wide(answer),
+        wide(number),
+    ];
+    columns::write_line(line, &[6u8; 9], &nine);
+}
+
+// Takes one call: any seven numbers, any buffer for its line. A buffer under 55 bytes gives 1 and stays as it was.
+pub fn call(register: Register, seven: Seven, line: &mut [u8]) -> Called
+    requires { ⌜ Kept register ⌝ }
+    ensures { λ r. ⌜ CallPost register seven (now (line .entry)) r (now (line .exit)) ⌝ }
+{
+    if line.len() < 55 {
+        return Called {
+            register,
+            answer: SHORT_LINE,
+            number: 0,
+        };
+    }
+    let out = take(register, seven);
+    write_journal(line, seven, out.answer, out.number);
+    out
+}

@@ -1,0 +1,73 @@
+-- What each search over the trains looks for, what each change makes of one, and a register that holds other trains. Assumes nothing.
+use Prim.Native.Nat.{ℕ, _≤_}
+use mathlib.Core.Path.{_≡_}
+use mathlib.Core.Bool.{Bool, true, false, cond, not, _&&_, _||_}
+use mathlib.Core.List.{List, [], _∷_}
+use lib.Dec.{eqb}
+use Rattle.lists.specs.Prefix.{prefix}
+use Rattle.portions.specs.Sets.{has}
+use Rattle.rules.specs.declared.Train.{Train}
+use Rattle.rules.specs.declared.Register.{Register}
+use Rattle.rules.specs.Board.{isTrain, isOutside, isTwa}
+use Rattle.rules.specs.Call.{authorityOf}
+use Rattle.rules.specs.Effects.{withHead, withRearIn, withAuthority, isWith, continuedWith}
+use Rattle.held.specs.declared.trains.TrainQuery.{TrainQuery}
+use Rattle.held.specs.declared.trains.TrainQuery.the-variants.{Number, Touching, InTheWay, OtherAt}
+use Rattle.held.specs.declared.trains.FoundTrain.{FoundTrain}
+use Rattle.held.specs.declared.trains.FoundTrain.the-variants.{Is, Nothing}
+use Rattle.held.specs.declared.trains.TrainChange.{TrainChange}
+use Rattle.held.specs.declared.trains.TrainChange.the-variants.{Head, RearIn, Freed, Continued}
+
+-- the train is what the query looks for, by its head or its rear
+unfoldable pub endPasses : TrainQuery → Train → ℕ → Bool
+endPasses (Number n) t end = isTrain (n .0) t
+endPasses (Touching set) t end = has end set
+endPasses (InTheWay old a) t end = has end (a .limits) && (isTwa (a .kind) || not (eqb (t .with .0) (old .0)) || not (has (t .head) (a .limits)))
+endPasses (OtherAt n p) t end = not (isTrain (n .0) t) && not (isOutside p) && eqb end p
+
+unfoldable pub trainPasses : TrainQuery → Train → Bool
+trainPasses q t = endPasses q t (t .head) || endPasses q t (t .rear)
+
+-- the first of a list that passes the test
+unfoldable pub foundTrain : (Train → Bool) → List Train → FoundTrain
+foundTrain test [] = Nothing
+foundTrain test (t ∷ ts) = cond (test t) (Is t) (foundTrain test ts)
+
+unfoldable pub isTrainIn : FoundTrain → Bool
+isTrainIn (Is t) = true
+isTrainIn Nothing = false
+
+-- the trains that a change is for, and what it makes of each
+unfoldable pub trainTest : TrainChange → Train → Bool
+trainTest (Head n to m) t = isTrain (n .0) t
+trainTest (RearIn n) t = isTrain (n .0) t
+trainTest (Freed n) t = isWith (n .0) t
+trainTest (Continued old new limits) t = isWith (old .0) t
+
+unfoldable pub trainChange : TrainChange → Train → Train
+trainChange (Head n to m) t = withHead to m t
+trainChange (RearIn n) t = withRearIn t
+trainChange (Freed n) t = withAuthority (authorityOf 0) t
+trainChange (Continued old new limits) t = continuedWith new limits t
+
+-- the register with other places for trains, and another count of those in use
+abbrev pub withTrainPlaces : List Train → ℕ → Register → Register
+withTrainPlaces places running r = record {
+  portions = r .portions;
+  «gate_count» = r .«gate_count»;
+  gates = r .gates;
+  day = r .day;
+  time = r .time;
+  last = r .last;
+  blocks = r .blocks;
+  live = r .live;
+  authorities = r .authorities;
+  running = running;
+  trains = places;
+}
+
+-- `after` holds the trains of the list, in order, and is else as `before` was
+pub record HoldsTrains (xs : List Train) (before after : Register) : Type 0 where
+  pub rest : after ≡ withTrainPlaces (after .trains) (after .running) before
+  pub held : prefix (after .running) (after .trains) ≡ xs
+  pub within : after .running ≤ 32

@@ -1,0 +1,190 @@
+// The trains on the board: a dense prefix of the register's array, in the order in which they came.
+ghost use mathlib.Core.Path.{_≡_};
+ghost use mathlib.Core.List.{_++_, _∷_, []};
+ghost use Prim.Native.Nat.{_≤_, _<_};
+ghost use Rattle.lists.specs.Search.{keep, change};
+ghost use Rattle.rules.specs.Board.{boardOf, isNotTrain};
+ghost use Rattle.held.specs.Trains.{endPasses, trainPasses, foundTrain, isTrainIn, trainTest, trainChange, HoldsTrains};
+use crate::authorities::is_twa;
+use rules::Authority;
+use rules::AuthorityNo;
+use rules::Register;
+use rules::Train;
+use rules::TrainNo;
+
+// What is looked for among the trains, at their head or their rear.
+pub enum TrainQuery {
+    // the one with that number
+    Number(TrainNo),
+    // one that touches the set of portions
+    Touching(u64),
+    // one in the way of a CONTINUE from the first authority to the second (refusal 12)
+    InTheWay(AuthorityNo, Authority),
+    // another than the train that touches the portion
+    OtherAt(TrainNo, u16),
+}
+
+pub enum FoundTrain {
+    Is(Train),
+    Nothing,
+}
+
+// What becomes of trains.
+pub enum TrainChange {
+    // the head of the train goes to the portion, with the authority
+    Head(TrainNo, u16, AuthorityNo),
+    // the rear of the train comes to its head
+    RearIn(TrainNo),
+    // trains with the authority are with none
+    Freed(AuthorityNo),
+    // trains with the first authority are with the second where their head is in the limits, else with none
+    Continued(AuthorityNo, AuthorityNo, u64),
+}
+
+// The train is what is looked for by its end (its head or its rear).
+fn passes_at(q: TrainQuery, t: Train, end: u16) -> bool
+    ensures { λ r. ⌜ r ≡ endPasses q t end ⌝ }
+{
+    match q {
+        TrainQuery::Number(n) => t.number.0 == n.0,
+        TrainQuery::Touching(set) => portions::has(set, end),
+        TrainQuery::InTheWay(old, a) => is_in_the_way(old, a, t, end),
+        TrainQuery::OtherAt(n, p) => (t.number.0 != n.0) & (p != 99) & (end == p),
+    }
+}
+
+// The end is in the limits of the new authority, and it is a TWA, or the train isn't with old, or its head isn't in them.
+fn is_in_the_way(old: AuthorityNo, a: Authority, t: Train, end: u16) -> bool
+    ensures { λ r. ⌜ r ≡ endPasses (TrainQuery.InTheWay old a) t end ⌝ }
+{
+    let kind = a.kind;
+    portions::has(a.limits, end)
+        & (is_twa(kind) | (t.with.0 != old.0) | !portions::has(a.limits, t.head))
+}
+
+// The first train that is what is looked for: the search goes over the trains and their head and rear, and is left when one is found.
+pub fn find_train(r: Register, q: TrainQuery) -> FoundTrain
+    requires { ⌜ r .running ≤ 32 ⌝ }
+    ensures { λ f. ⌜ f ≡ foundTrain (trainPasses q) (boardOf r .trains) ⌝ }
+{
+    let count = r.running;
+    let mut found = FoundTrain::Nothing;
+    let mut i: usize = 0;
+    'search: while i < count {
+        let t = r.trains[i];
+        let ends = [t.head, t.rear];
+        let mut k: usize = 0;
+        while k < 2 {
+            if passes_at(q, t, ends[k]) {
+                found = FoundTrain::Is(t);
+                break 'search;
+            }
+            k += 1;
+        }
+        i += 1;
+    }
+    found
+}
+
+pub fn is_found_train(f: FoundTrain) -> bool
+    ensures { λ r. ⌜ r ≡ isTrainIn f ⌝ }
+{
+    match f {
+        FoundTrain::Is(_) => true,
+        FoundTrain::Nothing => false,
+    }
+}
+
+// The train is one that changes.
+fn is_changed(c: TrainChange, t: Train) -> bool
+    ensures { λ r. ⌜ r ≡ trainTest c t ⌝ }
+{
+    match c {
+        TrainChange::Head(n, _, _) => t.number.0 == n.0,
+        TrainChange::RearIn(n) => t.number.0 == n.0,
+        TrainChange::Freed(n) => t.with.0 == n.0,
+        TrainChange::Continued(old, _, _) => t.with.0 == old.0,
+    }
+}
+
+// The train changed.
+fn changed_train(c: TrainChange, t: Train) -> Train
+    ensures { λ r. ⌜ r ≡ trainChange c t ⌝ }
+{
+    let mut x = t;
+    let none = AuthorityNo(0);
+    match c {
+        TrainChange::Head(_, to, n) => {
+            x.head = to;
+            x.with = n;
+            x
+        }
+        TrainChange::RearIn(_) => {
+            x.rear = t.head;
+            x
+        }
+        TrainChange::Freed(_) => {
+            x.with = none;
+            x
+        }
+        TrainChange::Continued(_, new, limits) => {
+            if portions::has(limits, t.head) {
+                x.with = new;
+            } else {
+                x.with = none;
+            }
+            x
+        }
+    }
+}
+
+// Each train that the change is for, changed.
+pub fn change_trains(r: Register, c: TrainChange) -> Register
+    requires { ⌜ r .running ≤ 32 ⌝ }
+    ensures { λ out. ⌜ HoldsTrains (change (trainTest c) (trainChange c) (boardOf r .trains)) r out ⌝ }
+{
+    let mut out = r;
+    let count = r.running;
+    let mut i: usize = 0;
+    while i < count {
+        let t = r.trains[i];
+        if is_changed(c, t) {
+            out.trains[i] = changed_train(c, t);
+        }
+        i += 1;
+    }
+    out
+}
+
+// The train with that number taken off; the order of the others stays.
+pub fn remove_train(r: Register, n: TrainNo) -> Register
+    requires { ⌜ r .running ≤ 32 ⌝ }
+    ensures { λ out. ⌜ HoldsTrains (keep (isNotTrain (n .0)) (boardOf r .trains)) r out ⌝ }
+{
+    let mut out = r;
+    let count = r.running;
+    let mut i: usize = 0;
+    let mut j: usize = 0;
+    while i < count {
+        let t = r.trains[i];
+        if t.number.0 != n.0 {
+            out.trains[j] = t;
+            j += 1;
+        }
+        i += 1;
+    }
+    out.running = j;
+    out
+}
+
+// One more train, at the end.
+pub fn add_train(r: Register, t: Train) -> Register
+    requires { ⌜ r .running < 32 ⌝ }
+    ensures { λ out. ⌜ HoldsTrains (boardOf r .trains ++ (t ∷ [])) r out ⌝ }
+{
+    let mut out = r;
+    let count = r.running;
+    out.trains[count] = t;
+    out.running = count + 1;
+    out
+}
