@@ -17,7 +17,7 @@ use Rattle.rules.specs.Board.{Board, boardOf, Same}
 use Rattle.rules.specs.Plan.{openBoard}
 use Rattle.rules.specs.Refusals.{conditions, answer}
 use Rattle.rules.specs.Journal.{journalLine}
-use Rattle.rules.specs.Step.{Made, Answered, after, trace, final, Kept, CallPost}
+use Rattle.rules.specs.Step.{Made, Answered, after, trace, final, Kept}
 use Rattle.rules.specs.Reckoning.{start, reckoned}
 use Rattle.rules.specs.Claim.{Safe}
 use Rattle.rules.proofs.Answers.{NoneHolds, Refused, accepted-none, none-accepted, refused-lowest, lowest-refused, refused-same, refused-none, short-line, long-line}
@@ -80,11 +80,20 @@ pub ran-safe : {text : List ℕ} {ms : List Made} {cs : List Answered} {r : Regi
 ran-safe {text} {ms} h =
     subst (λ (l : List Answered). Safe (openBoard text .gates) (reckoned (openBoard text .gates) start l)) (sym (ran-trace h)) (demand-3 text ms)
 
--- ---- demands 1 and 2, of the next call of any run: its register, seven numbers, buffer, result and buffer afterwards
+-- ---- demands 1 and 2, of every step of `call`: its arguments `a`, what it returned, and the buffer at its return
 
-module _ (before : Register) (s : Seven) (buffer buffer′ : List ℕ) (out : Called) (p : CallPost before s buffer out buffer′) where
+module _ (κs : Lfts 1) (a : Dens κs call-kinds.ps) (out : Called) (x : AtExit (endedOf 1 call-kinds.ps call-kinds.r) κs) (p : call-reads.Post κs a out x) where
   abbrev b : Board
-  b = boardOf before
+  b = boardOf (a .0)
+
+  abbrev s : Seven
+  s = a .1 .0
+
+  abbrev buffer : List ℕ
+  buffer = now (a .1 .1 .0)
+
+  abbrev buffer′ : List ℕ
+  buffer′ = now (x .1 .1 .0)
 
   abbrev room : ℕ
   room = length buffer
