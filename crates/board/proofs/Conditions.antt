@@ -10,29 +10,49 @@ use Rattle.lists.specs.Prefix.{prefix}
 use Rattle.lists.proofs.Prefix.{length-prefix}
 use Rattle.rules.specs.declared.Train.{Train}
 use Rattle.rules.specs.declared.TrainNo.{TrainNo}
-use Rattle.rules.specs.Board.{Board, noTrain, onBoard, train}
+use Rattle.rules.specs.declared.Register.{Register}
+use Rattle.rules.specs.Board.{Board, boardOf, noTrain, onBoard, train}
+use Rattle.places.specs.declared.whole.Head.{Head}
+use Rattle.places.specs.Places.{HeadBounds, gatesIn, authoritiesIn, trainsIn}
+use Rattle.places.proofs.Registers.{gates-length, authorities-length, trains-length}
 use Rattle.held.specs.declared.trains.FoundTrain.{FoundTrain}
 use Rattle.held.specs.declared.trains.FoundTrain.the-variants.{Is, Nothing}
 use Rattle.held.specs.declared.trains.TrainQuery.the-variants.{Number}
 use Rattle.held.specs.Trains.{foundTrain, trainPasses}
 use Rattle.held.proofs.TrainLaws.{train-is, train-none, any-number, first-number}
 
--- the places in use of an array are as many as its count
-pub in-use : {A : Type 0} (l : List A) (count most : ℕ) → length l ≡ most → count ≤ most → length (prefix count l) ≡ count
+-- ---- the places in use of each array are as many as the head says
+
+in-use : {A : Type 0} (l : List A) (count most : ℕ) → length l ≡ most → count ≤ most → length (prefix count l) ≡ count
 in-use l count most places h = length-prefix l count (omega arith)
+
+module _ {h : Head} (b : HeadBounds h) (l : List ℕ) where
+  pub gates-in-use : length (prefix (h .«gate_count») (gatesIn l)) ≡ h .«gate_count»
+  gates-in-use = in-use (gatesIn l) (h .«gate_count») 64 (gates-length l) (b .gates)
+
+  pub authorities-in-use : length (prefix (h .live) (authoritiesIn l)) ≡ h .live
+  authorities-in-use = in-use (authoritiesIn l) (h .live) 32 (authorities-length l) (b .live)
+
+  pub trains-in-use : length (prefix (h .running) (trainsIn l)) ≡ h .running
+  trains-in-use = in-use (trainsIn l) (h .running) 32 (trains-length l) (b .running)
+
+-- ---- the train with a number, looked for
 
 -- a train with that number is on the board, and it is t
 pub record There (b : Board) (n : TrainNo) (t : Train) : Type 0 where
   pub on : onBoard b (n .0) ≡ true
   pub is : train b (n .0) ≡ t
 
-module _ (b : Board) (n : TrainNo) {f : FoundTrain} (looked : f ≡ foundTrain (trainPasses (Number n)) (b .trains)) where
-  pub train-there : {t : Train} → f ≡ Is t → There b n t
-  unfolding onBoard train
+module _ (r : Register) (n : TrainNo) {f : FoundTrain} (looked : f ≡ foundTrain (trainPasses (Number n)) (prefix (r .running) (r .trains))) where
+  pub train-there : {t : Train} → f ≡ Is t → There (boardOf r) n t
+  unfolding boardOf onBoard train
   train-there {t} e =
-      let h = train-is (trainPasses (Number n)) (b .trains) t (sym looked ∙ e) in
-      record { on = sym (any-number n (b .trains)) ∙ h .0; is = sym (first-number n noTrain (b .trains)) ∙ h .1 }
+      let ts = boardOf r .trains in
+      let h = train-is (trainPasses (Number n)) ts t (sym looked ∙ e) in
+      record { on = sym (any-number n ts) ∙ h .0; is = sym (first-number n noTrain ts) ∙ h .1 }
 
-  pub train-missing : f ≡ Nothing → onBoard b (n .0) ≡ false
-  unfolding onBoard
-  train-missing e = sym (any-number n (b .trains)) ∙ train-none (trainPasses (Number n)) (b .trains) (sym looked ∙ e)
+  pub train-missing : f ≡ Nothing → onBoard (boardOf r) (n .0) ≡ false
+  unfolding boardOf onBoard
+  train-missing e =
+      let ts = boardOf r .trains in
+      sym (any-number n ts) ∙ train-none (trainPasses (Number n)) ts (sym looked ∙ e)

@@ -5,15 +5,14 @@ use mathlib.Core.Path.{_≡_, refl, sym, _∙_}
 use mathlib.Core.Bool.{Bool, true, false, not}
 use mathlib.Core.List.{List, [], _∷_}
 use borrow.Author.Tests.{eq-eqb, ne-eqb}
+use Rattle.lists.specs.Prefix.{prefix}
 use Rattle.rules.specs.declared.Authority.{Authority}
-use Rattle.rules.specs.declared.AuthorityNo.{AuthorityNo}
 use Rattle.rules.specs.declared.Register.{Register}
-use Rattle.rules.specs.Board.{boardOf, live, authority}
+use Rattle.rules.specs.Board.{boardOf, isAuthority, live, authority}
 use Rattle.rules.specs.Refusals.{Refusal, _when_, lowest, notLive}
-use Rattle.held.specs.declared.authorities.Query.the-variants.{Number}
 use Rattle.held.specs.declared.authorities.Found.{Found}
 use Rattle.held.specs.declared.authorities.Found.the-variants.{Is, Nothing}
-use Rattle.held.specs.Authorities.{passesOf, foundIn}
+use Rattle.held.specs.Authorities.{foundIn}
 use Rattle.held.proofs.AuthorityLaws.{found-none, found-is}
 
 -- ---- the first refusal that holds
@@ -45,11 +44,19 @@ pub ruleset refusals = (holds, fails, none, not-of-false, not-of-true, of-call, 
 
 -- ---- the authority with a number, looked for
 
-module _ (r : Register) (n : AuthorityNo) {f : Found} (e : f ≡ foundIn (passesOf (Number n)) (boardOf r .authorities)) where
-  pub not-found : f ≡ Nothing → notLive (boardOf r) (n .0) ≡ true
-  unfolding notLive live passesOf
+module _ (r : Register) (n : ℕ) {f : Found} (e : f ≡ foundIn (isAuthority n) (prefix (r .live) (r .authorities))) where
+  pub not-found : f ≡ Nothing → notLive (boardOf r) n ≡ true
+  unfolding notLive live boardOf
   not-found none′ = rw (found-none _ _ (sym e ∙ none′))
 
-  pub found : {a : Authority} → f ≡ Is a → (notLive (boardOf r) (n .0) ≡ false) × (authority (boardOf r) (n .0) ≡ a)
-  unfolding notLive live authority passesOf
+  pub found : {a : Authority} → f ≡ Is a → (notLive (boardOf r) n ≡ false) × (authority (boardOf r) n ≡ a)
+  unfolding notLive live authority boardOf
   found is = let h = found-is _ _ (sym e ∙ is) in (rw (h .0), h .1)
+
+-- a call that names it alone is answered 5 where it is not live, else by its other refusals, of the authority found
+module _ (r : Register) (n : ℕ) (rs : List Refusal) {f : Found} (e : f ≡ foundIn (isAuthority n) (prefix (r .live) (r .authorities))) where
+  pub not-live : f ≡ Nothing → 5 ≡ lowest (5 when notLive (boardOf r) n ∷ rs)
+  not-live none′ = holds 5 _ rs (not-found r n e none′)
+
+  pub is-live : {a : Authority} {v : ℕ} → f ≡ Is a → (authority (boardOf r) n ≡ a → v ≡ lowest rs) → v ≡ lowest (5 when notLive (boardOf r) n ∷ rs)
+  is-live is decided = let h = found r n e is in fails 5 _ _ rs (h .0) (decided (h .1))

@@ -6,10 +6,8 @@ use mathlib.Core.Path.{_≡_, refl, sym, ap, subst, _∙_}
 use mathlib.Core.Bool.{Bool, true, false, cond}
 use mathlib.Core.List.{List, _∷_, _++_}
 use lib.ListN.{length, drop}
-use lib.Dec.{eqb, ltb}
+use lib.Dec.{eqb}
 use borrow.Author.Tests.{eq-eqb, ne-eqb, le-ltb}
-use Rattle.lists.specs.Prefix.{prefix}
-use Rattle.lists.proofs.Prefix.{length-prefix}
 use Rattle.rules.specs.declared.Seven.{Seven}
 use Rattle.rules.specs.declared.Call.{Call}
 use Rattle.rules.specs.declared.Call.the-variants.{NoSuchCall, BadField, Request, Withdraw, Agree, Block, Unblock, Grant, Clear, Reoccupy, HandOver, Fulfil, Continue, Move, Passed}
@@ -20,12 +18,17 @@ use Rattle.rules.specs.Call.{isCall, inRanges, named, decoded}
 use Rattle.rules.specs.Refusals.{_when_, lowest, early, own, conditions, answer}
 use Rattle.rules.specs.Effects.{effect}
 use Rattle.rules.specs.Journal.{journalLine}
-use Rattle.rules.specs.Step.{Bounds, Kept, Once, after, allotted, CallPost}
+use Rattle.rules.specs.Step.{Kept, Once, after, allotted, CallPost}
 use Rattle.rules.proofs.Accepted.{Ranges, in-ranges}
 use Rattle.rules.proofs.Answers.{refused-same, refused-none, short-answer, short-line, long-line}
 use Rattle.rules.proofs.Once.{once-after}
+use Rattle.places.specs.declared.whole.Head.{Head}
+use Rattle.places.specs.Places.{gatesIn, authoritiesIn, trainsIn, headOf, registerIn, HeadBounds}
+use Rattle.places.proofs.Registers.{spread-register}
+use Rattle.board.specs.Lent.{boardIn, TakePost}
 use Rattle.board.specs.Faults.{faultOf, withRoom}
-use Rattle.board.specs.Effects.{EffectPost, TakePost}
+use Rattle.board.specs.Effects.{EffectPost}
+use Rattle.board.proofs.Conditions.{gates-in-use}
 
 -- ---- what the decoded call says of the answer
 
@@ -60,16 +63,14 @@ decoded-cases b s false y e f = faulty (λ z. omega arith) (rw e)
 decoded-cases b s true false e f = faulty (λ z. omega arith) (rw (e, f))
 decoded-cases b s true true e f = sound (no-fault b (named s) (in-ranges b s e f)) refl (rw (e, f))
 
-pub is-decoded : (b : Board) (s : Seven) (P G : ℕ) (c : Call) → P ≡ b .portions → G ≡ length (b .gates) → c ≡ decoded P G s → Decoded b s c
-unfolding decoded
-is-decoded b s P G c p g e =
-    subst (Decoded b s) (sym (e ∙ ap (λ (k : ℕ). decoded k G s) p ∙ ap (λ (k : ℕ). decoded (b .portions) k s) g))
+-- it is the call that was decoded with the head's numbers: the board's gates are as many as the head says
+pub head-decoded : (h : Head) (g a t : List ℕ) (s : Seven) (c : Call) → HeadBounds h → c ≡ decoded (h .portions) (h .«gate_count») s
+    → Decoded (boardIn h g a t) s c
+unfolding boardOf decoded
+head-decoded h g a t s c k e =
+    let b = boardIn h g a t in
+    subst (Decoded b s) (sym (e ∙ ap (λ (n : ℕ). decoded (h .portions) n s) (sym (gates-in-use k g))))
     (decoded-cases b s (isCall (s .call)) (inRanges (b .portions) (length (b .gates)) s) refl refl)
-
--- the board's gates are as many as the register says
-pub gate-count : (r : Register) → Bounds r → length (r .gates) ≡ 64 → r .«gate_count» ≡ length (boardOf r .gates)
-unfolding boardOf
-gate-count r h l = sym (length-prefix (r .gates) (r .«gate_count») (omega (arith, h .gates)))
 
 pub fault-answer : {b : Board} {s : Seven} {c : Call} → Decoded b s c → (faultOf c ≡ 0 → ⊥) → faultOf c ≡ withRoom b s
 fault-answer (faulty z e) h = e
@@ -102,7 +103,7 @@ room-allotted b s room h = rw (room-answer b s room h)
 -- ---- what a call with room for its line leaves
 
 pub taken-refused : (r : Register) (s : Seven) (refusal : ℕ) → Kept r → refusal ≡ withRoom (boardOf r) s → (refusal ≡ 0 → ⊥)
-    → TakePost r s (record { register = r; answer = refusal; number = 0 })
+    → TakePost r s r refusal 0
 taken-refused r s refusal k e n =
     let no : withRoom (boardOf r) s ≡ 0 → ⊥ = λ z. n (e ∙ z) in
     record {
@@ -134,7 +135,7 @@ number-is b s n z e = e ∙ rw (eq-eqb (answer b s 55) 0 z)
 
 pub taken-accepted : (r : Register) (s : Seven) (c : Call) (out : Register) (n : ℕ) → Kept r → c ≡ named s → withRoom (boardOf r) s ≡ 0
     → EffectPost r c out → n ≡ cond (eqb (s .call) 1) (suc (boardOf r .last)) 0
-    → TakePost r s (record { register = stamped (s .day) (s .time) out; answer = 0; number = n })
+    → TakePost r s (stamped (s .day) (s .time) out) 0 n
 unfolding boardOf
 taken-accepted r s c out n k e z p m =
     let b : Board = boardOf r in
@@ -152,6 +153,27 @@ taken-accepted r s c out n k e z p m =
     accepted-after : (b : Board) (s : Seven) (d : Board) → withRoom b s ≡ 0 → d ≡ effect b (named s) → withStamp (s .day) (s .time) d ≡ after b s 55
     accepted-after b s d z e = unfold after in rw (eq-eqb (answer b s 55) 0 z, e)
 
+-- ---- the same, of a register that is spread over a head and arrays, and read back from them
+
+pub spread : {h : Head} {r : Register} (g a t : List ℕ) → h ≡ headOf r → gatesIn g ≡ r .gates → authoritiesIn a ≡ r .authorities → trainsIn t ≡ r .trains
+    → registerIn h g a t ≡ r
+spread {r = r} g a t e gates authorities trains = rw e (spread-register r g a t gates authorities trains)
+
+module _ {r r₀ r′ : Register} {s : Seven} {given number : ℕ} (is : r₀ ≡ r) (p : TakePost r₀ s r′ given number) where
+  -- of a refused call the register handed in is as good as the one left
+  pub spread-refused : Kept r → (given ≡ 0 → ⊥) → TakePost r s r given number
+  spread-refused k n =
+      let q = subst (λ (r : Register). TakePost r s r′ given number) is p in
+      record {
+        board = sym (refused-same (boardOf r) s 55 (λ z. n (q .answered ∙ z)));
+        answered = q .answered;
+        number = q .number;
+        kept = k;
+      }
+
+  pub spread-taken : {r″ : Register} → r″ ≡ r′ → TakePost r s r″ given number
+  spread-taken e = rw (← is, e) p
+
 -- ---- the whole call
 
 pub called-short : (r : Register) (s : Seven) (buffer : List ℕ) → Kept r → length buffer < 55
@@ -167,7 +189,7 @@ called-short r s buffer k h =
       kept = k;
     }
 
-pub called-long : (r : Register) (s : Seven) (buffer buffer′ : List ℕ) (out : Called) → 55 ≤ length buffer → TakePost r s out
+pub called-long : (r : Register) (s : Seven) (buffer buffer′ : List ℕ) (out : Called) → 55 ≤ length buffer → TakePost r s (out .register) (out .answer) (out .number)
     → buffer′ ≡ journalLine s (out .answer) (out .number) ++ drop 55 buffer → CallPost r s buffer out buffer′
 called-long r s buffer buffer′ out h p e = record {
   board = p .board ∙ sym (room-after (boardOf r) s (length buffer) h);
@@ -177,14 +199,8 @@ called-long r s buffer buffer′ out h p e = record {
   kept = p .kept;
 }
 
--- ---- the same at a register, as the functions' proofs cite it
+-- ---- an accepted call is the one named, none of its own conditions holds, and its number is the next or 0
 
-pub register-decoded : (r : Register) (s : Seven) (c : Call) → Bounds r → length (r .gates) ≡ 64
-    → c ≡ decoded (r .portions) (r .«gate_count») s → Decoded (boardOf r) s c
-unfolding boardOf
-register-decoded r s c h l e = is-decoded (boardOf r) s (r .portions) (r .«gate_count») c refl (gate-count r h l) e
-
--- an accepted call is the one named, and none of its own conditions holds
 own-zero : (b : Board) (s : Seven) (c : Call) (x : Bool) → early b s ≡ x → withRoom b s ≡ lowest (4 when x ∷ own b s c) → withRoom b s ≡ 0
     → lowest (own b s c) ≡ 0
 unfolding lowest

@@ -1,18 +1,15 @@
--- What the private functions of this crate leave: the board after a call's effect, and a whole call but for its line. Assumes nothing.
+-- What the private functions of this crate leave: a freshly opened register, and the board after a call's effect. Assumes nothing.
 use Prim.Native.Nat.{ℕ, _<_}
 use mathlib.Core.Path.{_≡_}
 use mathlib.Core.Bool.{true}
 use mathlib.Core.List.{List}
 use lib.ListN.{replicate}
 use Rattle.rules.specs.declared.Gate.{Gate}
-use Rattle.rules.specs.declared.Seven.{Seven}
 use Rattle.rules.specs.declared.Call.{Call}
-use Rattle.rules.specs.declared.Called.{Called}
 use Rattle.rules.specs.declared.Register.{Register}
 use Rattle.rules.specs.Board.{boardOf, isOutside, gateAt, noAuthority, noTrain}
-use Rattle.rules.specs.Refusals.{answer}
 use Rattle.rules.specs.Effects.{effect}
-use Rattle.rules.specs.Step.{Bounds, Kept, after, allotted}
+use Rattle.rules.specs.Step.{Bounds}
 
 -- the register of a freshly opened board
 abbrev pub freshWith : ℕ → ℕ → List Gate → Register
@@ -38,10 +35,3 @@ pub record EffectPost (before : Register) (c : Call) (after : Register) : Type 0
 -- a gate from outside has room for one more train behind it
 pub record HasRoom (r : Register) (g : ℕ) : Type 0 where
   pub room : isOutside (gateAt (boardOf r .gates) g .from) ≡ true → r .running < 32
-
--- a call with room for its line, all but the line
-pub record TakePost (before : Register) (s : Seven) (r : Called) : Type 0 where
-  pub board : boardOf (r .register) ≡ after (boardOf before) s 55
-  pub answered : r .answer ≡ answer (boardOf before) s 55
-  pub number : r .number ≡ allotted (boardOf before) s 55
-  pub kept : Kept (r .register)

@@ -3,9 +3,10 @@ ghost use mathlib.Core.Path.{_≡_};
 ghost use mathlib.Core.Bool.{not, _||_, _&&_};
 ghost use mathlib.Core.List.{_∷_, []};
 ghost use lib.Dec.{eqb};
-ghost use Rattle.rules.specs.Board.{boardOf, inForce, workersOn, isTwa};
+ghost use Rattle.rules.specs.Board.{inForce, workersOn, isTwa};
 ghost use Rattle.rules.specs.Refusals.{_when_, lowest, notToAgree, unprotected, occupied, occupiedBeside, overlaps};
-ghost use Rattle.rules.specs.Step.{Bounds};
+ghost use Rattle.places.specs.Places.{HeadBounds};
+ghost use Rattle.board.specs.Lent.{boardIn};
 use crate::condition::is_occupied;
 use crate::condition::is_occupied_beside;
 use crate::condition::is_overlapping;
@@ -18,9 +19,9 @@ use crate::refusal::OVERLAP;
 use crate::refusal::SITE;
 use crate::refusal::STAGE;
 use crate::refusal::UNPROTECTED;
+use places::Head;
 use rules::Authority;
 use rules::AuthorityNo;
-use rules::Register;
 
 // 6 and 7 of WITHDRAW, with the authority found.
 pub fn decide_withdraw(a: Authority, officer: u16) -> u16
@@ -54,9 +55,16 @@ pub fn decide_agree(x: Authority, y: Authority, toa: AuthorityNo, officer: u16) 
 }
 
 // 6, 7, 11, 12 and 13 of GRANT, with the authority found.
-pub fn decide_grant(r: Register, a: Authority, officer: u16) -> u16
-    requires { ⌜ Bounds r ⌝ }
-    ensures { λ v. ⌜ v ≡ lowest (6 when inForce a ∷ 7 when not (eqb (a .officer) officer) ∷ 11 when unprotected (boardOf r) a ∷ 12 when occupied (boardOf r) a ∷ 13 when overlaps (boardOf r) 0 a ∷ []) ⌝ }
+pub fn decide_grant(
+    head: Head,
+    gates: &[u16; 192],
+    authorities: &[u64; 256],
+    trains: &[u16; 128],
+    a: Authority,
+    officer: u16,
+) -> u16
+    requires { ⌜ HeadBounds head ⌝ }
+    ensures { λ v. ⌜ v ≡ lowest (6 when inForce a ∷ 7 when not (eqb (a .officer) officer) ∷ 11 when unprotected (boardIn head (now (gates .entry)) (now (authorities .entry)) (now (trains .entry))) a ∷ 12 when occupied (boardIn head (now (gates .entry)) (now (authorities .entry)) (now (trains .entry))) a ∷ 13 when overlaps (boardIn head (now (gates .entry)) (now (authorities .entry)) (now (trains .entry))) 0 a ∷ []) ⌝ }
 {
     if a.in_force {
         return STAGE;
@@ -64,13 +72,13 @@ pub fn decide_grant(r: Register, a: Authority, officer: u16) -> u16
     if a.officer != officer {
         return OFFICER;
     }
-    if is_unprotected(r, a) {
+    if is_unprotected(head, gates, authorities, trains, a) {
         return UNPROTECTED;
     }
-    if is_occupied(r, a) {
+    if is_occupied(head, gates, authorities, trains, a) {
         return OCCUPIED;
     }
-    if is_overlapping(r, AuthorityNo(0), a) {
+    if is_overlapping(head, gates, authorities, trains, AuthorityNo(0), a) {
         return OVERLAP;
     }
     0
@@ -93,9 +101,16 @@ pub fn decide_clear(a: Authority, officer: u16) -> u16
 }
 
 // 6, 7, 8 and 12 of REOCCUPY, with the authority found.
-pub fn decide_reoccupy(r: Register, a: Authority, officer: u16) -> u16
-    requires { ⌜ Bounds r ⌝ }
-    ensures { λ v. ⌜ v ≡ lowest (6 when not (inForce a) ∷ 7 when not (eqb (a .officer) officer) ∷ 8 when workersOn a ∷ 12 when (isTwa (a .kind) && occupied (boardOf r) a) ∷ []) ⌝ }
+pub fn decide_reoccupy(
+    head: Head,
+    gates: &[u16; 192],
+    authorities: &[u64; 256],
+    trains: &[u16; 128],
+    a: Authority,
+    officer: u16,
+) -> u16
+    requires { ⌜ HeadBounds head ⌝ }
+    ensures { λ v. ⌜ v ≡ lowest (6 when not (inForce a) ∷ 7 when not (eqb (a .officer) officer) ∷ 8 when workersOn a ∷ 12 when (isTwa (a .kind) && occupied (boardIn head (now (gates .entry)) (now (authorities .entry)) (now (trains .entry))) a) ∷ []) ⌝ }
 {
     if !a.in_force {
         return STAGE;
@@ -107,7 +122,7 @@ pub fn decide_reoccupy(r: Register, a: Authority, officer: u16) -> u16
         return ALREADY_SO;
     }
     let kind = a.kind;
-    if held::is_twa(kind) & is_occupied(r, a) {
+    if held::is_twa(kind) & is_occupied(head, gates, authorities, trains, a) {
         return OCCUPIED;
     }
     0
@@ -147,15 +162,18 @@ pub fn decide_fulfil(a: Authority, officer: u16, assurances: u16) -> u16
 
 // 6, 7, 11, 12 and 13 of CONTINUE, with the two found.
 pub fn decide_continue(
-    r: Register,
+    head: Head,
+    gates: &[u16; 192],
+    authorities: &[u64; 256],
+    trains: &[u16; 128],
     old: AuthorityNo,
     x: Authority,
     y: Authority,
     officer_old: u16,
     officer_new: u16,
 ) -> u16
-    requires { ⌜ Bounds r ⌝ }
-    ensures { λ v. ⌜ v ≡ lowest (6 when (not (inForce x) || inForce y) ∷ 7 when (not (eqb (x .officer) «officer_old») || not (eqb (y .officer) «officer_new»)) ∷ 11 when unprotected (boardOf r) y ∷ 12 when occupiedBeside (boardOf r) (old .0) y ∷ 13 when overlaps (boardOf r) (old .0) y ∷ []) ⌝ }
+    requires { ⌜ HeadBounds head ⌝ }
+    ensures { λ v. ⌜ v ≡ lowest (6 when (not (inForce x) || inForce y) ∷ 7 when (not (eqb (x .officer) «officer_old») || not (eqb (y .officer) «officer_new»)) ∷ 11 when unprotected (boardIn head (now (gates .entry)) (now (authorities .entry)) (now (trains .entry))) y ∷ 12 when occupiedBeside (boardIn head (now (gates .entry)) (now (authorities .entry)) (now (trains .entry))) (old .0) y ∷ 13 when overlaps (boardIn head (now (gates .entry)) (now (authorities .entry)) (now (trains .entry))) (old .0) y ∷ []) ⌝ }
 {
     if !x.in_force | y.in_force {
         return STAGE;
@@ -163,13 +181,13 @@ pub fn decide_continue(
     if (x.officer != officer_old) | (y.officer != officer_new) {
         return OFFICER;
     }
-    if is_unprotected(r, y) {
+    if is_unprotected(head, gates, authorities, trains, y) {
         return UNPROTECTED;
     }
-    if is_occupied_beside(r, old, y) {
+    if is_occupied_beside(head, gates, authorities, trains, old, y) {
         return OCCUPIED;
     }
-    if is_overlapping(r, old, y) {
+    if is_overlapping(head, gates, authorities, trains, old, y) {
         return OVERLAP;
     }
     0

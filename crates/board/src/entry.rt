@@ -4,11 +4,12 @@ ghost use mathlib.Core.List.{_++_};
 ghost use Prim.Native.Nat.{_≤_};
 ghost use lib.ListN.{length, drop};
 ghost use Rattle.rules.specs.Journal.{journalLine};
-ghost use Rattle.rules.specs.Board.{boardOf};
 ghost use Rattle.rules.specs.Call.{decoded};
-ghost use Rattle.rules.specs.Step.{Bounds, Kept, OpenPost, CallPost};
+ghost use Rattle.rules.specs.Step.{Kept, OpenPost, CallPost};
+ghost use Rattle.places.specs.Places.{HeadBounds, registerIn};
+ghost use Rattle.board.specs.Lent.{boardIn, TakePost};
 ghost use Rattle.board.specs.Faults.{withRoom};
-ghost use Rattle.board.specs.Effects.{freshWith, TakePost};
+ghost use Rattle.board.specs.Effects.{freshWith};
 use crate::answer::answer_of;
 use crate::answer::fault_of;
 use crate::condition::is_early;
@@ -16,6 +17,7 @@ use crate::effect::effect_of;
 use crate::refusal::CLOCK;
 use crate::refusal::PLAN;
 use crate::refusal::SHORT_LINE;
+use places::Head;
 use rules::Authority;
 use rules::AuthorityNo;
 use rules::Call;
@@ -83,46 +85,66 @@ pub fn open(text: &[u8]) -> Opened
 }
 
 // The answer to a call that has room for its line.
-fn answer(r: Register, s: Seven, c: Call) -> u16
-    requires { ⌜ Bounds r × (c ≡ decoded (r .portions) (r .«gate_count») s) ⌝ }
-    ensures { λ x. ⌜ x ≡ withRoom (boardOf r) s ⌝ }
+fn answer(
+    head: Head,
+    gates: &[u16; 192],
+    authorities: &[u64; 256],
+    trains: &[u16; 128],
+    s: Seven,
+    c: Call,
+) -> u16
+    requires { ⌜ HeadBounds head × (c ≡ decoded (head .portions) (head .«gate_count») s) ⌝ }
+    ensures { λ x. ⌜ x ≡ withRoom (boardIn head (now (gates .entry)) (now (authorities .entry)) (now (trains .entry))) s ⌝ }
 {
     let fault = fault_of(c);
     if fault != 0 {
         return fault;
     }
-    if is_early(r, s) {
+    if is_early(head, gates, authorities, trains, s) {
         return CLOCK;
     }
-    answer_of(r, s, c)
+    answer_of(head, gates, authorities, trains, s, c)
 }
 
-// A call that has room for its line.
-fn take(r: Register, s: Seven) -> Called
-    requires { ⌜ Kept r ⌝ }
-    ensures { λ out. ⌜ TakePost r s out ⌝ }
+// What a call with room for its line leaves beside the arrays.
+pub struct Taken {
+    pub head: Head,
+    pub answer: u16,
+    pub number: u16,
+}
+
+// A call that has room for its line, on a register's head and arrays.
+pub fn take(
+    head: Head,
+    gates: &[u16; 192],
+    authorities: &mut [u64; 256],
+    trains: &mut [u16; 128],
+    s: Seven,
+) -> Taken
+    requires { ⌜ Kept (registerIn head (now gates) (now authorities) (now trains)) ⌝ }
+    ensures { λ out. ⌜ TakePost (registerIn head (now (gates .entry)) (now (authorities .entry)) (now (trains .entry))) s (registerIn (out .head) (now (gates .entry)) (now (authorities .exit)) (now (trains .exit))) (out .answer) (out .number) ⌝ }
 {
-    let c = decode::decode(r.portions, r.gate_count, s);
-    let refusal = answer(r, s, c);
+    let c = decode::decode(head.portions, head.gate_count, s);
+    let refusal = answer(head, gates, authorities, trains, s, c);
     if refusal != 0 {
-        return Called {
-            register: r,
+        return Taken {
+            head,
             answer: refusal,
             number: 0,
         };
     }
-    let mut register = effect_of(r, s, c);
-    register.day = s.day;
-    register.time = s.time;
+    let mut after = effect_of(head, gates, authorities, trains, s, c);
+    after.day = s.day;
+    after.time = s.time;
     if s.call == 1 {
-        return Called {
-            register,
+        return Taken {
+            head: after,
             answer: 0,
-            number: r.last + 1,
+            number: head.last + 1,
         };
     }
-    Called {
-        register,
+    Taken {
+        head: after,
         answer: 0,
         number: 0,
     }
@@ -153,6 +175,39 @@ fn write_journal(line: &mut [u8], s: Seven, answer: u16, number: u16)
     columns::write_line(line, &[6u8; 9], &nine);
 }
 
+// A call that has room for its line, on a register.
+fn take_whole(register: Register, seven: Seven) -> Called
+    requires { ⌜ Kept register ⌝ }
+    ensures { λ out. ⌜ TakePost register seven (out .register) (out .answer) (out .number) ⌝ }
+{
+    let mut gates = [0u16; 192];
+    let mut authorities = [0u64; 256];
+    let mut trains = [0u16; 128];
+    places::write_gates(register, &mut gates);
+    places::write_authorities(register, &mut authorities);
+    places::write_trains(register, &mut trains);
+    let taken = take(
+        places::head_of(register),
+        &gates,
+        &mut authorities,
+        &mut trains,
+        seven,
+    );
+    if taken.answer != 0 {
+        return Called {
+            register,
+            answer: taken.answer,
+            number: taken.number,
+        };
+    }
+    let head = taken.head;
+    Called {
+        register: places::read_register(head, &gates, &authorities, &trains),
+        answer: taken.answer,
+        number: taken.number,
+    }
+}
+
 // Takes one call: any seven numbers, any buffer for its line. A buffer under 55 bytes gives 1 and stays as it was.
 pub fn call(register: Register, seven: Seven, line: &mut [u8]) -> Called
     requires { ⌜ Kept register ⌝ }
@@ -165,7 +220,7 @@ pub fn call(register: Register, seven: Seven, line: &mut [u8]) -> Called
             number: 0,
         };
     }
-    let out = take(register, seven);
+    let out = take_whole(register, seven);
     write_journal(line, seven, out.answer, out.number);
     out
 }

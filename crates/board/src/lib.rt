@@ -7,5 +7,7 @@ mod entry;
 mod movement;
 mod refusal;
 
+pub use entry::Taken;
 pub use entry::call;
 pub use entry::open;
+pub use entry::take;

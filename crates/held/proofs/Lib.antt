@@ -1,3 +1,4 @@
--- The laws of this crate.
+-- The laws of the searches that the crates above cite, and, not public, those of the loops over the places.
 pub mod AuthorityLaws
 pub mod TrainLaws
+mod Loops

@@ -1,13 +1,10 @@
--- What each search over the trains looks for, what each change makes of one, and a register that holds other trains. Assumes nothing.
-use Prim.Native.Nat.{ℕ, _≤_}
-use mathlib.Core.Path.{_≡_}
+-- What each search over the trains looks for and answers, and what each change makes of one. Assumes nothing.
+use Prim.Native.Nat.{ℕ}
 use mathlib.Core.Bool.{Bool, true, false, cond, not, _&&_, _||_}
 use mathlib.Core.List.{List, [], _∷_}
 use lib.Dec.{eqb}
-use Rattle.lists.specs.Prefix.{prefix}
 use Rattle.portions.specs.Sets.{has}
 use Rattle.rules.specs.declared.Train.{Train}
-use Rattle.rules.specs.declared.Register.{Register}
 use Rattle.rules.specs.Board.{isTrain, isOutside, isTwa}
 use Rattle.rules.specs.Call.{authorityOf}
 use Rattle.rules.specs.Effects.{withHead, withRearIn, withAuthority, isWith, continuedWith}
@@ -49,25 +46,3 @@ trainChange (Head n to m) t = withHead to m t
 trainChange (RearIn n) t = withRearIn t
 trainChange (Freed n) t = withAuthority (authorityOf 0) t
 trainChange (Continued old new limits) t = continuedWith new limits t
-
--- the register with other places for trains, and another count of those in use
-abbrev pub withTrainPlaces : List Train → ℕ → Register → Register
-withTrainPlaces places running r = record {
-  portions = r .portions;
-  «gate_count» = r .«gate_count»;
-  gates = r .gates;
-  day = r .day;
-  time = r .time;
-  last = r .last;
-  blocks = r .blocks;
-  live = r .live;
-  authorities = r .authorities;
-  running = running;
-  trains = places;
-}
-
--- `after` holds the trains of the list, in order, and is else as `before` was
-pub record HoldsTrains (xs : List Train) (before after : Register) : Type 0 where
-  pub rest : after ≡ withTrainPlaces (after .trains) (after .running) before
-  pub held : prefix (after .running) (after .trains) ≡ xs
-  pub within : after .running ≤ 32

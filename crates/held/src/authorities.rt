@@ -1,29 +1,20 @@
-// The live authorities: a dense prefix of the register's array, in the order of their requests.
+// The live authorities: a dense prefix of the places, in the order of their requests.
 ghost use mathlib.Core.Path.{_≡_};
 ghost use mathlib.Core.List.{_++_, _∷_, []};
-ghost use Prim.Native.Nat.{_≤_, _<_};
-ghost use Rattle.lists.specs.Search.{keep, change};
-ghost use Rattle.rules.specs.Board.{boardOf, exclusive, isToa, isTwa, isAuthority, isNotAuthority};
-ghost use Rattle.held.specs.Authorities.{passesOf, foundIn, isIn, changeOf, HoldsAuthorities};
+ghost use Prim.Native.Nat.{_+_, _≤_, _<_};
+ghost use Rattle.lists.specs.Search.{any, keep, change};
+ghost use Rattle.lists.specs.Prefix.{prefix};
+ghost use Rattle.rules.specs.Board.{exclusive, isToa, isTwa, isAuthority, isNotAuthority};
+ghost use Rattle.rules.specs.Refusals.{clashes, inForceNeeds};
+ghost use Rattle.places.specs.Places.{authoritiesIn};
+ghost use Rattle.held.specs.Authorities.{foundIn, isIn, holdsPortion, changeOf};
+ghost use Rattle.held.specs.Places.{Holds};
+use places::authority_at;
+use places::put_authority;
 use rules::Authority;
 use rules::AuthorityNo;
 use rules::Gate;
 use rules::Kind;
-use rules::Register;
-
-// What is looked for among the authorities.
-pub enum Query {
-    // the one with that number
-    Number(AuthorityNo),
-    // one in force that shares a portion with the second, the first not counted (refusal 13)
-    Clashing(AuthorityNo, Authority),
-    // one in force that needs the gate
-    Needing(Gate),
-    // the exclusive one in force whose limits hold the portion
-    Exclusive(u16),
-    // the TWA in force whose limits hold the portion
-    Working(u16),
-}
 
 pub enum Found {
     Is(Authority),
@@ -70,7 +61,7 @@ pub fn is_twa(kind: Kind) -> bool
 
 // Refusal 13: x is in force, another than a and old, and shares a portion with a, and a is no TWA that has x as its agreed TOA.
 fn is_clashing(old: AuthorityNo, a: Authority, x: Authority) -> bool
-    ensures { λ r. ⌜ r ≡ passesOf (Query.Clashing old a) x ⌝ }
+    ensures { λ r. ⌜ r ≡ clashes (old .0) a x ⌝ }
 {
     let kind = a.kind;
     x.in_force
@@ -80,35 +71,80 @@ fn is_clashing(old: AuthorityNo, a: Authority, x: Authority) -> bool
         & !(is_twa(kind) & (x.number.0 == a.agreed.0))
 }
 
-// x is what is looked for.
-fn passes(q: Query, x: Authority) -> bool
-    ensures { λ r. ⌜ r ≡ passesOf q x ⌝ }
+// The authority with that number.
+pub fn find(authorities: &[u64; 256], live: usize, n: AuthorityNo) -> Found
+    requires { ⌜ live ≤ 32 ⌝ }
+    ensures { λ f. ⌜ f ≡ foundIn (isAuthority (n .0)) (prefix live (authoritiesIn (now (authorities .entry)))) ⌝ }
 {
-    let kind = x.kind;
-    match q {
-        Query::Number(n) => x.number.0 == n.0,
-        Query::Clashing(old, a) => is_clashing(old, a, x),
-        Query::Needing(gate) => x.in_force & plan::is_needed(x.limits, gate),
-        Query::Exclusive(p) => x.in_force & is_exclusive(kind) & portions::has(x.limits, p),
-        Query::Working(p) => x.in_force & is_twa(kind) & portions::has(x.limits, p),
-    }
-}
-
-// The first authority that is what is looked for.
-pub fn find(r: Register, q: Query) -> Found
-    requires { ⌜ r .live ≤ 32 ⌝ }
-    ensures { λ f. ⌜ f ≡ foundIn (passesOf q) (boardOf r .authorities) ⌝ }
-{
-    let count = r.live;
     let mut i: usize = 0;
-    while i < count {
-        let x = r.authorities[i];
-        if passes(q, x) {
+    while i < live {
+        let x = authority_at(authorities, i);
+        if x.number.0 == n.0 {
             return Found::Is(x);
         }
         i += 1;
     }
     Found::Nothing
+}
+
+// x is in force, its limits hold the portion, and it is exclusive, or is not, as is said.
+fn is_holding(x: Authority, p: u16, exclusively: bool) -> bool
+    ensures { λ r. ⌜ r ≡ holdsPortion exclusively p x ⌝ }
+{
+    let kind = x.kind;
+    if exclusively {
+        x.in_force & is_exclusive(kind) & portions::has(x.limits, p)
+    } else {
+        x.in_force & is_twa(kind) & portions::has(x.limits, p)
+    }
+}
+
+// E, where exclusively is true, or W: the exclusive authority or the TWA in force whose limits hold the portion.
+pub fn find_holding(authorities: &[u64; 256], live: usize, p: u16, exclusively: bool) -> Found
+    requires { ⌜ live ≤ 32 ⌝ }
+    ensures { λ f. ⌜ f ≡ foundIn (holdsPortion exclusively p) (prefix live (authoritiesIn (now (authorities .entry)))) ⌝ }
+{
+    let mut i: usize = 0;
+    while i < live {
+        let x = authority_at(authorities, i);
+        if is_holding(x, p, exclusively) {
+            return Found::Is(x);
+        }
+        i += 1;
+    }
+    Found::Nothing
+}
+
+// Refusal 13 for a: another in force shares a portion, old not counted.
+pub fn is_overlapped(authorities: &[u64; 256], live: usize, old: AuthorityNo, a: Authority) -> bool
+    requires { ⌜ live ≤ 32 ⌝ }
+    ensures { λ r. ⌜ r ≡ any (clashes (old .0) a) (prefix live (authoritiesIn (now (authorities .entry)))) ⌝ }
+{
+    let mut i: usize = 0;
+    while i < live {
+        let x = authority_at(authorities, i);
+        if is_clashing(old, a, x) {
+            return true;
+        }
+        i += 1;
+    }
+    false
+}
+
+// Refusal 16 for the gate: an authority in force needs it.
+pub fn is_still_needed(authorities: &[u64; 256], live: usize, gate: Gate) -> bool
+    requires { ⌜ live ≤ 32 ⌝ }
+    ensures { λ r. ⌜ r ≡ any (inForceNeeds gate) (prefix live (authoritiesIn (now (authorities .entry)))) ⌝ }
+{
+    let mut i: usize = 0;
+    while i < live {
+        let x = authority_at(authorities, i);
+        if x.in_force & plan::is_needed(x.limits, gate) {
+            return true;
+        }
+        i += 1;
+    }
+    false
 }
 
 pub fn is_found(f: Found) -> bool
@@ -146,53 +182,43 @@ fn changed(c: Change, a: Authority) -> Authority
     }
 }
 
-// The authority with that number changed.
-pub fn amend(r: Register, n: AuthorityNo, c: Change) -> Register
-    requires { ⌜ r .live ≤ 32 ⌝ }
-    ensures { λ out. ⌜ HoldsAuthorities (change (isAuthority (n .0)) (changeOf c) (boardOf r .authorities)) r out ⌝ }
+// Changes the authority with that number.
+pub fn amend(authorities: &mut [u64; 256], live: usize, n: AuthorityNo, c: Change)
+    requires { ⌜ live ≤ 32 ⌝ }
+    ensures { λ _. ⌜ prefix live (authoritiesIn (now (authorities .exit))) ≡ change (isAuthority (n .0)) (changeOf c) (prefix live (authoritiesIn (now (authorities .entry)))) ⌝ }
 {
-    let mut out = r;
-    let count = r.live;
     let mut i: usize = 0;
-    while i < count {
-        let x = r.authorities[i];
+    while i < live {
+        let x = authority_at(authorities, i);
         if x.number.0 == n.0 {
-            out.authorities[i] = changed(c, x);
+            put_authority(authorities, i, changed(c, x));
         }
         i += 1;
     }
-    out
 }
 
-// The authority with that number taken out; the order of the others stays.
-pub fn end_authority(r: Register, n: AuthorityNo) -> Register
-    requires { ⌜ r .live ≤ 32 ⌝ }
-    ensures { λ out. ⌜ HoldsAuthorities (keep (isNotAuthority (n .0)) (boardOf r .authorities)) r out ⌝ }
+// Takes out the authority with that number, and answers how many are left; the order of the others stays.
+pub fn end_authority(authorities: &mut [u64; 256], live: usize, n: AuthorityNo) -> usize
+    requires { ⌜ live ≤ 32 ⌝ }
+    ensures { λ left. ⌜ Holds (keep (isNotAuthority (n .0)) (prefix live (authoritiesIn (now (authorities .entry))))) left (authoritiesIn (now (authorities .exit))) ⌝ }
 {
-    let mut out = r;
-    let count = r.live;
     let mut i: usize = 0;
     let mut j: usize = 0;
-    while i < count {
-        let x = r.authorities[i];
+    while i < live {
+        let x = authority_at(authorities, i);
         if x.number.0 != n.0 {
-            out.authorities[j] = x;
+            put_authority(authorities, j, x);
             j += 1;
         }
         i += 1;
     }
-    out.live = j;
-    out
+    j
 }
 
 // One more authority, at the end.
-pub fn add_authority(r: Register, a: Authority) -> Register
-    requires { ⌜ r .live < 32 ⌝ }
-    ensures { λ out. ⌜ HoldsAuthorities (boardOf r .authorities ++ (a ∷ [])) r out ⌝ }
+pub fn add_authority(authorities: &mut [u64; 256], live: usize, a: Authority)
+    requires { ⌜ live < 32 ⌝ }
+    ensures { λ _. ⌜ prefix (live + 1) (authoritiesIn (now (authorities .exit))) ≡ prefix live (authoritiesIn (now (authorities .entry))) ++ (a ∷ []) ⌝ }
 {
-    let mut out = r;
-    let count = r.live;
-    out.authorities[count] = a;
-    out.live = count + 1;
-    out
+    put_authority(authorities, live, a);
 }

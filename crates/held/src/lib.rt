@@ -4,13 +4,15 @@ mod trains;
 
 pub use authorities::Change;
 pub use authorities::Found;
-pub use authorities::Query;
 pub use authorities::add_authority;
 pub use authorities::amend;
 pub use authorities::end_authority;
 pub use authorities::find;
+pub use authorities::find_holding;
 pub use authorities::is_exclusive;
 pub use authorities::is_found;
+pub use authorities::is_overlapped;
+pub use authorities::is_still_needed;
 pub use authorities::is_toa;
 pub use authorities::is_twa;
 pub use trains::FoundTrain;

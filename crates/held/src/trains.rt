@@ -1,14 +1,18 @@
-// The trains on the board: a dense prefix of the register's array, in the order in which they came.
+// The trains on the board: a dense prefix of the places, in the order in which they came.
 ghost use mathlib.Core.Path.{_≡_};
 ghost use mathlib.Core.List.{_++_, _∷_, []};
-ghost use Prim.Native.Nat.{_≤_, _<_};
+ghost use Prim.Native.Nat.{_+_, _≤_, _<_};
 ghost use Rattle.lists.specs.Search.{keep, change};
-ghost use Rattle.rules.specs.Board.{boardOf, isNotTrain};
-ghost use Rattle.held.specs.Trains.{endPasses, trainPasses, foundTrain, isTrainIn, trainTest, trainChange, HoldsTrains};
+ghost use Rattle.lists.specs.Prefix.{prefix};
+ghost use Rattle.rules.specs.Board.{isNotTrain};
+ghost use Rattle.places.specs.Places.{trainsIn};
+ghost use Rattle.held.specs.Trains.{endPasses, trainPasses, foundTrain, isTrainIn, trainTest, trainChange};
+ghost use Rattle.held.specs.Places.{Holds};
 use crate::authorities::is_twa;
+use places::put_train;
+use places::train_at;
 use rules::Authority;
 use rules::AuthorityNo;
-use rules::Register;
 use rules::Train;
 use rules::TrainNo;
 
@@ -63,15 +67,14 @@ fn is_in_the_way(old: AuthorityNo, a: Authority, t: Train, end: u16) -> bool
 }
 
 // The first train that is what is looked for: the search goes over the trains and their head and rear, and is left when one is found.
-pub fn find_train(r: Register, q: TrainQuery) -> FoundTrain
-    requires { ⌜ r .running ≤ 32 ⌝ }
-    ensures { λ f. ⌜ f ≡ foundTrain (trainPasses q) (boardOf r .trains) ⌝ }
+pub fn find_train(trains: &[u16; 128], running: usize, q: TrainQuery) -> FoundTrain
+    requires { ⌜ running ≤ 32 ⌝ }
+    ensures { λ f. ⌜ f ≡ foundTrain (trainPasses q) (prefix running (trainsIn (now (trains .entry)))) ⌝ }
 {
-    let count = r.running;
     let mut found = FoundTrain::Nothing;
     let mut i: usize = 0;
-    'search: while i < count {
-        let t = r.trains[i];
+    'search: while i < running {
+        let t = train_at(trains, i);
         let ends = [t.head, t.rear];
         let mut k: usize = 0;
         while k < 2 {
@@ -138,53 +141,43 @@ fn changed_train(c: TrainChange, t: Train) -> Train
     }
 }
 
-// Each train that the change is for, changed.
-pub fn change_trains(r: Register, c: TrainChange) -> Register
-    requires { ⌜ r .running ≤ 32 ⌝ }
-    ensures { λ out. ⌜ HoldsTrains (change (trainTest c) (trainChange c) (boardOf r .trains)) r out ⌝ }
+// Changes each train that the change is for.
+pub fn change_trains(trains: &mut [u16; 128], running: usize, c: TrainChange)
+    requires { ⌜ running ≤ 32 ⌝ }
+    ensures { λ _. ⌜ prefix running (trainsIn (now (trains .exit))) ≡ change (trainTest c) (trainChange c) (prefix running (trainsIn (now (trains .entry)))) ⌝ }
 {
-    let mut out = r;
-    let count = r.running;
     let mut i: usize = 0;
-    while i < count {
-        let t = r.trains[i];
+    while i < running {
+        let t = train_at(trains, i);
         if is_changed(c, t) {
-            out.trains[i] = changed_train(c, t);
+            put_train(trains, i, changed_train(c, t));
         }
         i += 1;
     }
-    out
 }
 
-// The train with that number taken off; the order of the others stays.
-pub fn remove_train(r: Register, n: TrainNo) -> Register
-    requires { ⌜ r .running ≤ 32 ⌝ }
-    ensures { λ out. ⌜ HoldsTrains (keep (isNotTrain (n .0)) (boardOf r .trains)) r out ⌝ }
+// Takes the train with that number off, and answers how many are left; the order of the others stays.
+pub fn remove_train(trains: &mut [u16; 128], running: usize, n: TrainNo) -> usize
+    requires { ⌜ running ≤ 32 ⌝ }
+    ensures { λ left. ⌜ Holds (keep (isNotTrain (n .0)) (prefix running (trainsIn (now (trains .entry))))) left (trainsIn (now (trains .exit))) ⌝ }
 {
-    let mut out = r;
-    let count = r.running;
     let mut i: usize = 0;
     let mut j: usize = 0;
-    while i < count {
-        let t = r.trains[i];
+    while i < running {
+        let t = train_at(trains, i);
         if t.number.0 != n.0 {
-            out.trains[j] = t;
+            put_train(trains, j, t);
             j += 1;
         }
         i += 1;
     }
-    out.running = j;
-    out
+    j
 }
 
 // One more train, at the end.
-pub fn add_train(r: Register, t: Train) -> Register
-    requires { ⌜ r .running < 32 ⌝ }
-    ensures { λ out. ⌜ HoldsTrains (boardOf r .trains ++ (t ∷ [])) r out ⌝ }
+pub fn add_train(trains: &mut [u16; 128], running: usize, t: Train)
+    requires { ⌜ running < 32 ⌝ }
+    ensures { λ _. ⌜ prefix (running + 1) (trainsIn (now (trains .exit))) ≡ prefix running (trainsIn (now (trains .entry))) ++ (t ∷ []) ⌝ }
 {
-    let mut out = r;
-    let count = r.running;
-    out.trains[count] = t;
-    out.running = count + 1;
-    out
+    put_train(trains, running, t);
 }

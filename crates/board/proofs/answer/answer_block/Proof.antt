@@ -1,13 +1,10 @@
-use Rattle.rules.specs.Board.{boardOf}
-use Rattle.rules.specs.Refusals.{lowest}
+-- `board::answer::answer_block` meets its contract. Assumes nothing.
 use borrow.Author.Tests.{eq-eqb, ne-eqb}
 use borrow.Author.Needs.{needs}
+use Rattle.rules.specs.Board.{boardOf}
+use Rattle.rules.specs.Refusals.{lowest}
 use Rattle.board.proofs.answer.answer_block.Statement.{statement}
 use Rattle.board.proofs.answer.answer_block.Tie as tie
-use Rattle.board.proofs.answer.answer_block.Reads as reads
-use Rattle.board.proofs.answer.answer_block.Lts as lts
-use Rattle.board.proofs.condition.gate_at.Reads as gate-at-reads
-use Rattle.portions.proofs.has.Reads as has-reads
 
 has-requires : tie.Need-has-requires
 has-requires c κs = search needs

@@ -1,12 +1,9 @@
-use Rattle.board.proofs.Finding.{not-found, found}
-use Rattle.rules.specs.Refusals.{lowest, notOfficer}
+-- `board::answer::answer_hand_over` meets its contract. Assumes nothing.
 use borrow.Author.Needs.{needs}
+use Rattle.rules.specs.Refusals.{notOfficer}
+use Rattle.board.proofs.Finding.{not-live, is-live}
 use Rattle.board.proofs.answer.answer_hand_over.Statement.{statement}
 use Rattle.board.proofs.answer.answer_hand_over.Tie as tie
-use Rattle.board.proofs.answer.answer_hand_over.Reads as reads
-use Rattle.board.proofs.answer.answer_hand_over.Lts as lts
-use Rattle.board.proofs.decide.decide_hand_over.Reads as decide-hand-over-reads
-use Rattle.held.proofs.find.Reads as find-reads
 
 find-requires : tie.Need-find-requires
 find-requires c κs = search needs
@@ -18,17 +15,14 @@ enum-told : tie.Need-enum-told
 enum-told c = search needs
 
 returns : tie.Need-returns
-unfolding lowest
-returns c = rw (not-found _ _ (c .before .before .find .ensures) (c .enum-told .given .1))
+returns c = not-live _ _ _ (c .before .before .find .ensures) (c .enum-told .given .1)
 
 decide-hand-over-requires : tie.Need-decide-hand-over-requires
 decide-hand-over-requires c κs = search needs
 
 returns-2 : tie.Need-returns-2
-unfolding lowest notOfficer
-returns-2 c =
-    let is = found _ _ (c .before .before .before .before .find .ensures) (c .before .before .a .given .1) in
-    rw (is .0, is .1) (c .decide-hand-over .ensures)
+unfolding notOfficer
+returns-2 c = is-live _ _ _ (c .before .before .before .before .find .ensures) (c .before .before .a .given .1) (λ is. rw is (c .decide-hand-over .ensures))
 
 pub answer-hand-over-spec : {M : Type 1} → statement M
 answer-hand-over-spec =

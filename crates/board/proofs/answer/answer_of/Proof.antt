@@ -1,22 +1,8 @@
-use Rattle.rules.specs.Refusals.{lowest, own}
+-- `board::answer::answer_of` meets its contract. Assumes nothing.
 use borrow.Author.Needs.{needs}
+use Rattle.rules.specs.Refusals.{lowest, own}
 use Rattle.board.proofs.answer.answer_of.Statement.{statement}
 use Rattle.board.proofs.answer.answer_of.Tie as tie
-use Rattle.board.proofs.answer.answer_of.Reads as reads
-use Rattle.board.proofs.answer.answer_of.Lts as lts
-use Rattle.board.proofs.answer.answer_agree.Reads as answer-agree-reads
-use Rattle.board.proofs.answer.answer_block.Reads as answer-block-reads
-use Rattle.board.proofs.answer.answer_clear.Reads as answer-clear-reads
-use Rattle.board.proofs.answer.answer_continue.Reads as answer-continue-reads
-use Rattle.board.proofs.answer.answer_fulfil.Reads as answer-fulfil-reads
-use Rattle.board.proofs.answer.answer_grant.Reads as answer-grant-reads
-use Rattle.board.proofs.answer.answer_hand_over.Reads as answer-hand-over-reads
-use Rattle.board.proofs.answer.answer_reoccupy.Reads as answer-reoccupy-reads
-use Rattle.board.proofs.answer.answer_request.Reads as answer-request-reads
-use Rattle.board.proofs.answer.answer_unblock.Reads as answer-unblock-reads
-use Rattle.board.proofs.answer.answer_withdraw.Reads as answer-withdraw-reads
-use Rattle.board.proofs.movement.answer_move.Reads as answer-move-reads
-use Rattle.board.proofs.movement.answer_passed.Reads as answer-passed-reads
 
 enum-told : tie.Need-enum-told
 enum-told c = search needs

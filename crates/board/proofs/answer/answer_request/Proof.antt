@@ -1,10 +1,8 @@
-use Rattle.board.proofs.Finding.{refusals}
+-- `board::answer::answer_request` meets its contract. Assumes nothing.
 use borrow.Author.Needs.{needs}
+use Rattle.board.proofs.Finding.{refusals}
 use Rattle.board.proofs.answer.answer_request.Statement.{statement}
 use Rattle.board.proofs.answer.answer_request.Tie as tie
-use Rattle.board.proofs.answer.answer_request.Reads as reads
-use Rattle.board.proofs.answer.answer_request.Lts as lts
-use Rattle.board.proofs.condition.is_full.Reads as is-full-reads
 
 is-full-requires : tie.Need-is-full-requires
 is-full-requires c κs = search needs

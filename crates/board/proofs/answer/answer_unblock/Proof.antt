@@ -1,12 +1,9 @@
+-- `board::answer::answer_unblock` meets its contract. Assumes nothing.
+use borrow.Author.Needs.{needs}
 use Rattle.rules.specs.Board.{boardOf}
 use Rattle.rules.specs.Refusals.{lowest}
-use borrow.Author.Needs.{needs}
 use Rattle.board.proofs.answer.answer_unblock.Statement.{statement}
 use Rattle.board.proofs.answer.answer_unblock.Tie as tie
-use Rattle.board.proofs.answer.answer_unblock.Reads as reads
-use Rattle.board.proofs.answer.answer_unblock.Lts as lts
-use Rattle.board.proofs.condition.is_still_needed.Reads as is-still-needed-reads
-use Rattle.portions.proofs.has.Reads as has-reads
 
 has-requires : tie.Need-has-requires
 has-requires c κs = search needs

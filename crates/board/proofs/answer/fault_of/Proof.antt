@@ -1,17 +1,16 @@
+-- `board::answer::fault_of` meets its contract. Assumes nothing.
+use Prim.Native.Nat.{ℕ}
 use mathlib.Core.Path.{_≡_, refl}
 use mathlib.Core.List.{List, [], _∷_}
 use types.Run.{OneOf, miss}
 use denote.Enum.Declared.{tagOf}
-use Prim.Native.Nat.{ℕ}
+use borrow.Author.Needs.{needs}
 use Rattle.rules.specs.declared.Call.{Call}
 use Rattle.rules.specs.declared.Call.the-variants.{NoSuchCall, BadField, Request, Withdraw, Agree, Block, Unblock, Grant, Clear, Reoccupy, HandOver, Fulfil, Continue, Move, Passed}
 use Rattle.rules.proofs.Call as enum
 use Rattle.board.specs.Faults.{faultOf}
-use borrow.Author.Needs.{needs}
 use Rattle.board.proofs.answer.fault_of.Statement.{statement}
 use Rattle.board.proofs.answer.fault_of.Tie as tie
-use Rattle.board.proofs.answer.fault_of.Reads as reads
-use Rattle.board.proofs.answer.fault_of.Lts as lts
 
 abbrev others : List ℕ
 others = 2 ∷ 3 ∷ 4 ∷ 5 ∷ 6 ∷ 7 ∷ 8 ∷ 9 ∷ 10 ∷ 11 ∷ 12 ∷ 13 ∷ 14 ∷ []

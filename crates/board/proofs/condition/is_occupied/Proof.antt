@@ -1,5 +1,6 @@
 -- `board::condition::is_occupied` meets its contract. Assumes nothing.
 use borrow.Author.Needs.{needs}
+use Rattle.rules.specs.Board.{boardOf}
 use Rattle.rules.specs.Refusals.{occupied}
 use Rattle.held.proofs.TrainLaws.{train-any, any-touching}
 use Rattle.board.proofs.condition.is_occupied.Statement.{statement}
@@ -12,7 +13,7 @@ is-found-train-requires : tie.Need-is-found-train-requires
 is-found-train-requires c κs = search needs
 
 returns : tie.Need-returns
-unfolding occupied
+unfolding occupied boardOf
 returns c = rw (c .is-found-train .ensures, c .before .find-train .ensures, train-any, any-touching)
 
 pub is-occupied-spec : {M : Type 1} → statement M

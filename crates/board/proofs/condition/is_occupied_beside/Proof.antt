@@ -1,5 +1,6 @@
 -- `board::condition::is_occupied_beside` meets its contract. Assumes nothing.
 use borrow.Author.Needs.{needs}
+use Rattle.rules.specs.Board.{boardOf}
 use Rattle.rules.specs.Refusals.{occupiedBeside}
 use Rattle.held.proofs.TrainLaws.{train-any, any-in-the-way}
 use Rattle.board.proofs.condition.is_occupied_beside.Statement.{statement}
@@ -12,7 +13,7 @@ is-found-train-requires : tie.Need-is-found-train-requires
 is-found-train-requires c κs = search needs
 
 returns : tie.Need-returns
-unfolding occupiedBeside
+unfolding occupiedBeside boardOf
 returns c = rw (c .is-found-train .ensures, c .before .find-train .ensures, train-any, any-in-the-way)
 
 pub is-occupied-beside-spec : {M : Type 1} → statement M

@@ -1,20 +1,16 @@
 -- `board::condition::is_overlapping` meets its contract. Assumes nothing.
 use borrow.Author.Needs.{needs}
+use Rattle.rules.specs.Board.{boardOf}
 use Rattle.rules.specs.Refusals.{overlaps}
-use Rattle.held.specs.Authorities.{passesOf}
-use Rattle.held.proofs.AuthorityLaws.{found-any}
 use Rattle.board.proofs.condition.is_overlapping.Statement.{statement}
 use Rattle.board.proofs.condition.is_overlapping.Tie as tie
 
-find-requires : tie.Need-find-requires
-find-requires c κs = search needs
-
-is-found-requires : tie.Need-is-found-requires
-is-found-requires c κs = search needs
+is-overlapped-requires : tie.Need-is-overlapped-requires
+is-overlapped-requires c κs = search needs
 
 returns : tie.Need-returns
-unfolding overlaps passesOf
-returns c = rw (c .is-found .ensures, c .before .find .ensures, found-any)
+unfolding overlaps boardOf
+returns c = c .is-overlapped .ensures
 
 pub is-overlapping-spec : {M : Type 1} → statement M
-is-overlapping-spec = tie.close (tie.spec find-requires is-found-requires returns)
+is-overlapping-spec = tie.close (tie.spec is-overlapped-requires returns)

@@ -1,13 +1,11 @@
 -- `board::condition::is_unprotected` meets its contract. Assumes nothing.
-use Prim.Native.Nat.{_≤_}
 use native.Mathlib.Omega.{arith}
-use mathlib.Core.Path.{_≡_}
-use lib.ListN.{length}
+use mathlib.Core.Path.{sym}
+use denote.Ref.{now}
 use borrow.Author.Needs.{needs}
-use Rattle.lists.proofs.Prefix.{unmapped}
 use Rattle.rules.specs.Board.{boardOf}
 use Rattle.plan.proofs.Needs.{unprotected-subset}
-use Rattle.board.proofs.Taking.{gate-count}
+use Rattle.board.proofs.Conditions.{gates-in-use}
 use Rattle.board.proofs.condition.is_unprotected.Statement.{statement}
 use Rattle.board.proofs.condition.is_unprotected.Tie as tie
 
@@ -20,11 +18,9 @@ subset-requires c κs = search needs
 returns : tie.Need-returns
 unfolding boardOf
 returns c =
-    let s = c .before .before .before in
-    let r = s .args .r in
-    let places : length (r .gates) ≡ 64 = search unmapped in
-    let few : length (boardOf r .gates) ≤ 64 = omega (arith, gate-count r (s .pre) places, s .pre .gates) in
-    rw (c .subset .ensures, c .before .needed .ensures, unprotected-subset (boardOf r) (s .args .a) few)
+    let s = c .before .before in
+    rw (c .subset .ensures, c .before .needed .ensures)
+    (sym (unprotected-subset _ (s .args .a) (omega (arith, gates-in-use (s .pre) (now (s .args .gates)), s .pre .gates))))
 
 pub is-unprotected-spec : {M : Type 1} → statement M
 is-unprotected-spec = tie.close (tie.spec needed-requires subset-requires returns)

@@ -1,14 +1,11 @@
-use Rattle.rules.specs.Refusals.{notToAgree}
+-- `board::decide::decide_agree` meets its contract. Assumes nothing.
 use mathlib.Core.Path.{_≡_}
 use mathlib.Core.Bool.{false}
 use borrow.Author.Needs.{needs}
+use Rattle.rules.specs.Refusals.{notToAgree}
 use Rattle.board.proofs.Finding.{refusals}
 use Rattle.board.proofs.decide.decide_agree.Statement.{statement}
 use Rattle.board.proofs.decide.decide_agree.Tie as tie
-use Rattle.board.proofs.decide.decide_agree.Reads as reads
-use Rattle.board.proofs.decide.decide_agree.Lts as lts
-use Rattle.held.proofs.is_toa.Reads as is-toa-reads
-use Rattle.held.proofs.is_twa.Reads as is-twa-reads
 
 is-toa-requires : tie.Need-is-toa-requires
 is-toa-requires c κs = search needs

@@ -1,8 +1,7 @@
+-- `board::decide::decide_clear` meets its contract. Assumes nothing.
 use Rattle.board.proofs.Finding.{refusals}
 use Rattle.board.proofs.decide.decide_clear.Statement.{statement}
 use Rattle.board.proofs.decide.decide_clear.Tie as tie
-use Rattle.board.proofs.decide.decide_clear.Reads as reads
-use Rattle.board.proofs.decide.decide_clear.Lts as lts
 
 returns : tie.Need-returns
 returns c = search refusals

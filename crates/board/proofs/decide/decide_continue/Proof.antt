@@ -1,12 +1,8 @@
+-- `board::decide::decide_continue` meets its contract. Assumes nothing.
 use borrow.Author.Needs.{needs}
 use Rattle.board.proofs.Finding.{refusals}
 use Rattle.board.proofs.decide.decide_continue.Statement.{statement}
 use Rattle.board.proofs.decide.decide_continue.Tie as tie
-use Rattle.board.proofs.decide.decide_continue.Reads as reads
-use Rattle.board.proofs.decide.decide_continue.Lts as lts
-use Rattle.board.proofs.condition.is_occupied_beside.Reads as is-occupied-beside-reads
-use Rattle.board.proofs.condition.is_overlapping.Reads as is-overlapping-reads
-use Rattle.board.proofs.condition.is_unprotected.Reads as is-unprotected-reads
 
 returns : tie.Need-returns
 returns c = search refusals

@@ -1,8 +1,7 @@
+-- `board::decide::decide_fulfil` meets its contract. Assumes nothing.
 use Rattle.board.proofs.Finding.{refusals}
 use Rattle.board.proofs.decide.decide_fulfil.Statement.{statement}
 use Rattle.board.proofs.decide.decide_fulfil.Tie as tie
-use Rattle.board.proofs.decide.decide_fulfil.Reads as reads
-use Rattle.board.proofs.decide.decide_fulfil.Lts as lts
 
 returns : tie.Need-returns
 returns c = search refusals

@@ -1,12 +1,8 @@
+-- `board::decide::decide_grant` meets its contract. Assumes nothing.
 use borrow.Author.Needs.{needs}
 use Rattle.board.proofs.Finding.{refusals}
 use Rattle.board.proofs.decide.decide_grant.Statement.{statement}
 use Rattle.board.proofs.decide.decide_grant.Tie as tie
-use Rattle.board.proofs.decide.decide_grant.Reads as reads
-use Rattle.board.proofs.decide.decide_grant.Lts as lts
-use Rattle.board.proofs.condition.is_occupied.Reads as is-occupied-reads
-use Rattle.board.proofs.condition.is_overlapping.Reads as is-overlapping-reads
-use Rattle.board.proofs.condition.is_unprotected.Reads as is-unprotected-reads
 
 returns : tie.Need-returns
 returns c = search refusals

@@ -1,8 +1,7 @@
+-- `board::decide::decide_hand_over` meets its contract. Assumes nothing.
 use Rattle.board.proofs.Finding.{refusals}
 use Rattle.board.proofs.decide.decide_hand_over.Statement.{statement}
 use Rattle.board.proofs.decide.decide_hand_over.Tie as tie
-use Rattle.board.proofs.decide.decide_hand_over.Reads as reads
-use Rattle.board.proofs.decide.decide_hand_over.Lts as lts
 
 returns : tie.Need-returns
 returns c = search refusals

@@ -1,11 +1,8 @@
+-- `board::decide::decide_reoccupy` meets its contract. Assumes nothing.
 use borrow.Author.Needs.{needs}
 use Rattle.board.proofs.Finding.{refusals}
 use Rattle.board.proofs.decide.decide_reoccupy.Statement.{statement}
 use Rattle.board.proofs.decide.decide_reoccupy.Tie as tie
-use Rattle.board.proofs.decide.decide_reoccupy.Reads as reads
-use Rattle.board.proofs.decide.decide_reoccupy.Lts as lts
-use Rattle.board.proofs.condition.is_occupied.Reads as is-occupied-reads
-use Rattle.held.proofs.is_twa.Reads as is-twa-reads
 
 returns : tie.Need-returns
 returns c = search refusals

@@ -1,8 +1,7 @@
+-- `board::decide::decide_withdraw` meets its contract. Assumes nothing.
 use Rattle.board.proofs.Finding.{refusals}
 use Rattle.board.proofs.decide.decide_withdraw.Statement.{statement}
 use Rattle.board.proofs.decide.decide_withdraw.Tie as tie
-use Rattle.board.proofs.decide.decide_withdraw.Reads as reads
-use Rattle.board.proofs.decide.decide_withdraw.Lts as lts
 
 returns : tie.Need-returns
 returns c = search refusals

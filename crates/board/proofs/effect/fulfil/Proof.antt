@@ -1,9 +1,10 @@
 -- `board::effect::fulfil` meets its contract: the authority ends, then its trains are freed. Assumes nothing.
 use borrow.Author.Needs.{needs}
 use mathlib.Core.Path.{refl}
-use Rattle.rules.specs.Effects.{effect, freed}
+use Rattle.rules.specs.Board.{boardOf}
+use Rattle.rules.specs.Effects.{effect}
 use Rattle.held.specs.Trains.{trainTest, trainChange}
-use Rattle.board.proofs.Changing.{held-bounds, both-effect}
+use Rattle.board.proofs.Changing.{changed-effect}
 use Rattle.board.proofs.effect.fulfil.Statement.{statement}
 use Rattle.board.proofs.effect.fulfil.Tie as tie
 
@@ -11,11 +12,13 @@ end-authority-requires : tie.Need-end-authority-requires
 end-authority-requires c κs = search needs
 
 change-trains-requires : tie.Need-change-trains-requires
-change-trains-requires c κs = held-bounds (c .end-authority .ensures) (c .before .pre) .running
+change-trains-requires c κs = search needs
 
 returns : tie.Need-returns
-unfolding effect trainTest trainChange
-returns c = both-effect (c .before .before .pre) (freed (c .before .before .args .n .0)) (c .before .end-authority .ensures) (c .change-trains .ensures) refl
+unfolding boardOf effect trainTest trainChange
+returns c =
+    let s = c .before .before .before .before in
+    changed-effect (s .pre) (c .before .before .end-authority .ensures) (record { held = c .change-trains .ensures; within = s .pre .running }) refl
 
 pub fulfil-spec : {M : Type 1} → statement M
 fulfil-spec = tie.close (tie.spec end-authority-requires change-trains-requires returns)

@@ -1,9 +1,10 @@
 -- `board::effect::is_head_outside` meets its contract. Assumes nothing.
 use borrow.Author.Needs.{needs}
-use mathlib.Core.Path.{sym, _∙_}
-use Rattle.rules.specs.Board.{boardOf}
-use Rattle.board.proofs.Changing.{train-absent}
+use mathlib.Core.Path.{sym, ap}
+use Rattle.rules.specs.declared.Train.{Train}
+use Rattle.rules.specs.Board.{isOutside}
 use Rattle.board.proofs.Conditions.{train-there}
+use Rattle.board.proofs.Changing.{train-absent}
 use Rattle.board.proofs.effect.is_head_outside.Statement.{statement}
 use Rattle.board.proofs.effect.is_head_outside.Tie as tie
 
@@ -17,14 +18,11 @@ enum-told : tie.Need-enum-told
 enum-told c = search needs
 
 returns : tie.Need-returns
-returns c =
-    let r = c .before .before .before .args .r in
-    rw (train-absent (boardOf r) _ (sym (c .before .before .find-train .ensures) ∙ c .enum-told .given .1))
+returns c = sym (ap (λ (x : Train). isOutside (x .head)) (train-absent _ _ (c .before .before .find-train .ensures) (c .enum-told .given .1)))
 
 returns-2 : tie.Need-returns-2
 returns-2 c =
-    let r = c .before .before .before .before .before .args .r in
-    rw (train-there (boardOf r) _ (c .before .before .before .before .find-train .ensures) (c .before .before .x .given .1) .is)
+    sym (ap (λ (x : Train). isOutside (x .head)) (train-there _ _ (c .before .before .before .before .find-train .ensures) (c .before .before .x .given .1) .is))
 
 pub is-head-outside-spec : {M : Type 1} → statement M
 is-head-outside-spec =

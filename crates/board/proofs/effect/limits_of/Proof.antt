@@ -1,9 +1,9 @@
 -- `board::effect::limits_of` meets its contract. Assumes nothing.
 use borrow.Author.Needs.{needs}
-use mathlib.Core.Path.{sym, _∙_}
-use Rattle.rules.specs.Board.{boardOf}
-use Rattle.board.proofs.Changing.{authority-absent}
+use mathlib.Core.Path.{sym, ap}
+use Rattle.rules.specs.declared.Authority.{Authority}
 use Rattle.board.proofs.Finding.{found}
+use Rattle.board.proofs.Changing.{authority-absent}
 use Rattle.board.proofs.effect.limits_of.Statement.{statement}
 use Rattle.board.proofs.effect.limits_of.Tie as tie
 
@@ -17,14 +17,10 @@ enum-told : tie.Need-enum-told
 enum-told c = search needs
 
 returns : tie.Need-returns
-returns c =
-    let r = c .before .before .before .args .r in
-    rw (authority-absent (boardOf r) _ (sym (c .before .before .find .ensures) ∙ c .enum-told .given .1))
+returns c = sym (ap (λ (x : Authority). x .limits) (authority-absent _ _ (c .before .before .find .ensures) (c .enum-told .given .1)))
 
 returns-2 : tie.Need-returns-2
-returns-2 c =
-    let r = c .before .before .before .before .args .r in
-    rw (found r _ (c .before .before .before .find .ensures) (c .before .a .given .1) .1)
+returns-2 c = sym (ap (λ (x : Authority). x .limits) (found _ _ (c .before .before .before .find .ensures) (c .before .a .given .1) .1))
 
 pub limits-of-spec : {M : Type 1} → statement M
 limits-of-spec = tie.close (tie.spec find-requires enum-known-a enum-told returns returns-2)

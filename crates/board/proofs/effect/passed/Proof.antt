@@ -1,6 +1,7 @@
 -- `board::effect::passed` meets its contract: a head outside takes the train off, else its rear follows. Assumes nothing.
 use borrow.Author.Needs.{needs}
 use mathlib.Core.Path.{sym, _∙_}
+use Rattle.rules.specs.Board.{boardOf}
 use Rattle.rules.specs.Effects.{effect}
 use Rattle.held.specs.Trains.{trainTest, trainChange}
 use Rattle.board.proofs.Changing.{trains-effect}
@@ -17,14 +18,19 @@ change-trains-requires : tie.Need-change-trains-requires
 change-trains-requires c κs = search needs
 
 returns : tie.Need-returns
-unfolding effect
+unfolding boardOf effect
 returns c =
-    trains-effect (c .before .before .before .pre) (c .remove-train .ensures) (rw (sym (c .before .before .is-head-outside .ensures) ∙ c .before .if1 .taken))
+    let f = c .before .before .before in
+    trains-effect (f .before .before .before .pre) (c .remove-train .ensures)
+    (rw (sym (f .is-head-outside .ensures) ∙ c .before .before .if1 .taken))
 
 returns-2 : tie.Need-returns-2
-unfolding effect trainTest trainChange
+unfolding boardOf effect trainTest trainChange
 returns-2 c =
-    trains-effect (c .before .before .before .pre) (c .change-trains .ensures) (rw (sym (c .before .before .is-head-outside .ensures) ∙ c .before .if1 .left))
+    let f = c .before .before .before in
+    let k = f .before .before .before .pre in
+    trains-effect k (record { held = c .change-trains .ensures; within = k .running })
+    (rw (sym (f .is-head-outside .ensures) ∙ c .before .before .if1 .left))
 
 pub passed-spec : {M : Type 1} → statement M
 passed-spec =

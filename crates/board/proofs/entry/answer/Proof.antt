@@ -1,20 +1,15 @@
--- `board::entry::answer` meets its contract: 2 and 3 by the decoded call, then 4, then the call's own.
-use mathlib.Core.Path.{sym, _∙_}
+-- `board::entry::answer` meets its contract: 2 and 3 by the decoded call, then 4, then the call's own. Assumes nothing.
 use borrow.Author.Needs.{needs}
-use Rattle.lists.proofs.Prefix.{unmapped}
-use Rattle.rules.specs.Board.{boardOf}
-use Rattle.board.proofs.Taking.{Decoded, register-decoded, fault-answer, early-answer, own-answer}
+use mathlib.Core.Path.{sym, _∙_}
+use denote.Ref.{now}
+use Rattle.board.specs.Lent.{boardIn}
+use Rattle.board.proofs.Taking.{Decoded, head-decoded, fault-answer, early-answer, own-answer}
 use Rattle.board.proofs.entry.answer.Statement.{statement}
 use Rattle.board.proofs.entry.answer.Tie as tie
-use Rattle.board.proofs.entry.answer.Reads as reads
-use Rattle.board.proofs.entry.answer.Lts as lts
-use Rattle.board.proofs.answer.answer_of.Reads as answer-of-reads
-use Rattle.board.proofs.answer.fault_of.Reads as fault-of-reads
-use Rattle.board.proofs.condition.is_early.Reads as is-early-reads
 
 -- what the decoded call says of the answer
-known : (s : tie.Start) → Decoded (boardOf (s .args .r)) (s .args .s) (s .args .c)
-known s = register-decoded (s .args .r) (s .args .s) (s .args .c) (s .pre .0) (search unmapped) (s .pre .1)
+known : (s : tie.Start) → Decoded (boardIn (s .args .head) (now (s .args .gates)) (now (s .args .authorities)) (now (s .args .trains))) (s .args .s) (s .args .c)
+known s = head-decoded _ _ _ _ _ _ (s .pre .0) (s .pre .1)
 
 fault-of-requires : tie.Need-fault-of-requires
 fault-of-requires c κs = search needs

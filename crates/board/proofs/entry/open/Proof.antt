@@ -1,11 +1,8 @@
+-- `board::entry::open` meets its contract: a fresh register of the plan that was read, and 0 or 20. Assumes nothing.
 use borrow.Author.Needs.{needs}
 use Rattle.board.proofs.Opening.{plan-read, plan-refused, opened-post}
 use Rattle.board.proofs.entry.open.Statement.{statement}
 use Rattle.board.proofs.entry.open.Tie as tie
-use Rattle.board.proofs.entry.open.Reads as reads
-use Rattle.board.proofs.entry.open.Lts as lts
-use Rattle.board.proofs.entry.fresh.Reads as fresh-reads
-use Rattle.plan.proofs.read_plan.Reads as read-plan-reads
 
 read-plan-requires : tie.Need-read-plan-requires
 read-plan-requires c κs = search needs

@@ -1,11 +1,8 @@
+-- `board::entry::write_journal` meets its contract: nine numbers in columns of six. Assumes nothing.
 use borrow.Author.Needs.{needs}
 use Rattle.board.proofs.Writing.{journal-written}
 use Rattle.board.proofs.entry.write_journal.Statement.{statement}
 use Rattle.board.proofs.entry.write_journal.Tie as tie
-use Rattle.board.proofs.entry.write_journal.Reads as reads
-use Rattle.board.proofs.entry.write_journal.Lts as lts
-use Rattle.board.proofs.entry.wide.Reads as wide-reads
-use Rattle.columns.proofs.write_line.Reads as write-line-reads
 
 wide-requires : tie.Need-wide-requires
 wide-requires c κs = search needs

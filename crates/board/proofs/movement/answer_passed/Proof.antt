@@ -1,14 +1,21 @@
 -- `board::movement::answer_passed` meets its contract. Assumes nothing.
+use denote.Ref.{now}
 use borrow.Author.Tests.{eq-eqb, ne-eqb}
 use borrow.Author.Needs.{needs}
+use Rattle.rules.specs.declared.Register.{Register}
 use Rattle.rules.specs.Board.{boardOf}
 use Rattle.rules.specs.Refusals.{lowest}
+use Rattle.places.specs.Places.{registerIn}
 use Rattle.board.proofs.Conditions.{There, train-there, train-missing}
 use Rattle.board.proofs.movement.answer_passed.Statement.{statement}
 use Rattle.board.proofs.movement.answer_passed.Tie as tie
 
+-- what the arguments stand for
+abbrev register : tie.Start → Register
+register s = registerIn (s .args .head) (now (s .args .gates)) (now (s .args .authorities)) (now (s .args .trains))
+
 -- the train that was found
-there : (x : tie.After-x) → There (boardOf (x .before .before .before .args .r)) (x .before .before .before .args .t) (x .x .given .0 .0)
+there : (x : tie.After-x) → There (boardOf (register (x .before .before .before))) (x .before .before .before .args .t) (x .x .given .0 .0)
 there x = train-there _ _ (x .before .before .find-train .ensures) (x .x .given .1)
 
 find-train-requires : tie.Need-find-train-requires
@@ -24,7 +31,7 @@ returns : tie.Need-returns
 unfolding lowest
 returns c =
     let s = c .before .before .before in
-    rw (train-missing (boardOf (s .args .r)) (s .args .t) (c .before .before .find-train .ensures) (c .enum-told .given .1))
+    rw (train-missing (register s) (s .args .t) (c .before .before .find-train .ensures) (c .enum-told .given .1))
 
 returns-2 : tie.Need-returns-2
 unfolding lowest

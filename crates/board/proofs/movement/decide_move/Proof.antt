@@ -2,16 +2,17 @@
 use Prim.Native.Nat.{ℕ}
 use mathlib.Core.Path.{_≡_, sym, _∙_}
 use mathlib.Core.List.{List}
+use denote.Ref.{now}
 use lib.ListN.{drop}
 use borrow.Author.Needs.{needs}
-use Rattle.rules.specs.Board.{boardOf}
 use Rattle.rules.specs.Refusals.{Refusal, lowest, moveRefusals}
+use Rattle.board.specs.Lent.{boardIn}
 use Rattle.board.proofs.movement.decide_move.Statement.{statement}
 use Rattle.board.proofs.movement.decide_move.Tie as tie
 
 abbrev refusals : tie.Start → List Refusal
 refusals s =
-    moveRefusals (boardOf (s .args .r)) (s .args .t .0) (s .args .g .0) (s .args .gate) (s .args .n .0) (s .args .officer)
+    moveRefusals (boardIn (s .args .head) (now (s .args .gates)) (now (s .args .authorities)) (now (s .args .trains))) (s .args .t .0) (s .args .g .0) (s .args .gate) (s .args .n .0) (s .args .officer)
 
 -- the answer is that of the refusals after the k-th
 abbrev Past : ℕ → tie.Start → Type 0

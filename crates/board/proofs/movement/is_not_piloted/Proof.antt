@@ -1,6 +1,7 @@
 -- `board::movement::is_not_piloted` meets its contract. Assumes nothing.
 use mathlib.Core.Path.{sym, _∙_}
 use borrow.Author.Needs.{needs}
+use Rattle.rules.specs.Board.{boardOf}
 use Rattle.rules.specs.Refusals.{anyE, anyW, theW, pilot, notPiloted}
 use Rattle.held.proofs.AuthorityLaws.{found-none, found-is}
 use Rattle.board.proofs.movement.is_not_piloted.Statement.{statement}
@@ -19,14 +20,14 @@ enum-told-2 : tie.Need-enum-told-2
 enum-told-2 c = search needs
 
 returns : tie.Need-returns
-unfolding notPiloted pilot anyE
+unfolding notPiloted pilot anyE boardOf
 returns c =
     let e = c .before .before .before .before in
     let h = found-is _ _ (sym (e .before .before .pre .0) ∙ e .e .given .1) in
     rw (h .0, h .1)
 
 returns-2 : tie.Need-returns-2
-unfolding notPiloted pilot anyE anyW theW
+unfolding notPiloted pilot anyE anyW theW boardOf
 returns-2 c =
     let w = c .before .before .before .before in
     let s = w .before .before .before .before in
@@ -34,7 +35,7 @@ returns-2 c =
     rw (found-none _ _ (sym (s .pre .0) ∙ w .before .before .enum-told .given .1), h .0, h .1)
 
 returns-3 : tie.Need-returns-3
-unfolding notPiloted pilot anyE anyW
+unfolding notPiloted pilot anyE anyW boardOf
 returns-3 c =
     let w = c .before in
     let s = w .before .before .before .before in

@@ -1,10 +1,13 @@
 -- `board::movement::is_not_there` meets its contract. Assumes nothing.
 use mathlib.Core.Path.{_≡_, refl}
 use mathlib.Core.Bool.{Bool, true, false, cond, not}
+use denote.Ref.{now}
 use borrow.Author.Tests.{eq-eqb, ne-eqb}
 use borrow.Author.Needs.{needs}
+use Rattle.rules.specs.declared.Register.{Register}
 use Rattle.rules.specs.Board.{boardOf, isOutside}
 use Rattle.rules.specs.Refusals.{isAt, notThere}
+use Rattle.places.specs.Places.{registerIn}
 use Rattle.board.proofs.Conditions.{There, train-there, train-missing}
 use Rattle.board.proofs.movement.is_not_there.Statement.{statement}
 use Rattle.board.proofs.movement.is_not_there.Tie as tie
@@ -14,8 +17,12 @@ turned : (t : Bool) → not t ≡ cond t false true
 turned true = refl
 turned false = refl
 
+-- what the arguments stand for
+abbrev register : tie.Start → Register
+register s = registerIn (s .args .head) (now (s .args .gates)) (now (s .args .authorities)) (now (s .args .trains))
+
 -- the train that was found
-there : (x : tie.After-x) → There (boardOf (x .before .before .before .args .r)) (x .before .before .before .args .t) (x .x .given .0 .0)
+there : (x : tie.After-x) → There (boardOf (register (x .before .before .before))) (x .before .before .before .args .t) (x .x .given .0 .0)
 there x = train-there _ _ (x .before .before .find-train .ensures) (x .x .given .1)
 
 find-train-requires : tie.Need-find-train-requires
@@ -31,7 +38,7 @@ returns : tie.Need-returns
 unfolding notThere
 returns c =
     let s = c .before .before .before .before in
-    rw (train-missing (boardOf (s .args .r)) (s .args .t) (c .before .before .before .find-train .ensures) (c .before .enum-told .given .1))
+    rw (train-missing (register s) (s .args .t) (c .before .before .before .find-train .ensures) (c .before .enum-told .given .1))
     (turned (isOutside (s .args .gate .from)))
 
 returns-2 : tie.Need-returns-2

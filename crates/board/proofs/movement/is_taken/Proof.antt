@@ -1,5 +1,6 @@
 -- `board::movement::is_taken` meets its contract. Assumes nothing.
 use borrow.Author.Needs.{needs}
+use Rattle.rules.specs.Board.{boardOf}
 use Rattle.rules.specs.Refusals.{anyE, taken}
 use Rattle.held.proofs.AuthorityLaws.{found-any}
 use Rattle.held.proofs.TrainLaws.{train-any, any-other-at}
@@ -10,7 +11,7 @@ is-found-requires : tie.Need-is-found-requires
 is-found-requires c κs = search needs
 
 returns : tie.Need-returns
-unfolding taken anyE
+unfolding taken anyE boardOf
 returns c = rw (← found-any, ← c .before .before .pre .1, ← c .before .is-found .ensures, c .if1 .taken)
 
 find-train-requires : tie.Need-find-train-requires
@@ -20,7 +21,7 @@ is-found-train-requires : tie.Need-is-found-train-requires
 is-found-train-requires c κs = search needs
 
 returns-2 : tie.Need-returns-2
-unfolding taken anyE
+unfolding taken anyE boardOf
 returns-2 c =
     rw (
       ← found-any,

@@ -1,6 +1,7 @@
 -- `board::movement::is_worked_on` meets its contract. Assumes nothing.
 use mathlib.Core.Path.{sym, _∙_}
 use borrow.Author.Needs.{needs}
+use Rattle.rules.specs.Board.{boardOf}
 use Rattle.rules.specs.Refusals.{anyW, theW, workedOn}
 use Rattle.held.proofs.AuthorityLaws.{found-none, found-is}
 use Rattle.board.proofs.movement.is_worked_on.Statement.{statement}
@@ -13,11 +14,11 @@ enum-told : tie.Need-enum-told
 enum-told c = search needs
 
 returns : tie.Need-returns
-unfolding workedOn anyW
+unfolding workedOn anyW boardOf
 returns c = rw (found-none _ _ (sym (c .before .before .pre) ∙ c .enum-told .given .1))
 
 returns-2 : tie.Need-returns-2
-unfolding workedOn anyW theW
+unfolding workedOn anyW theW boardOf
 returns-2 c = let w = found-is _ _ (sym (c .before .before .before .pre) ∙ c .before .w .given .1) in rw (w .0, w .1)
 
 pub is-worked-on-spec : {M : Type 1} → statement M

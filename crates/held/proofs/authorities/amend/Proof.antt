@@ -2,37 +2,34 @@
 use Prim.Native.Nat.{_-_}
 use native.Mathlib.Omega.{arith}
 use mathlib.Core.Logic.{⊎-elim}
+use mathlib.Core.Path.{ap, _∙_}
 use borrow.Author.Tests.{eq-eqb, ne-eqb}
-use Rattle.lists.proofs.Prefix.{unmapped}
 use Rattle.rules.specs.Board.{isAuthority}
+use Rattle.places.specs.Places.{authoritiesIn}
+use Rattle.places.proofs.Registers.{authorities-length}
 use Rattle.held.specs.Authorities.{changeOf}
-use Rattle.held.proofs.AuthorityLaws.{Amending, amend-start, amend-hit, amend-miss, amend-end}
+use Rattle.held.proofs.Loops.{Changing, changing-start, changing-hit, changing-miss, changing-end}
 use Rattle.held.proofs.authorities.amend.Statement.{statement}
 use Rattle.held.proofs.authorities.amend.Tie as tie
 
 abbrev Inv-loop : tie.InvT-loop
-Inv-loop n c r out₀ count i₀ out i = Amending (isAuthority (n .0)) (changeOf c) r out i
+Inv-loop authorities₀ live n c i₀ authorities i =
+    Changing (isAuthority (n .0)) (changeOf c) (authoritiesIn authorities₀) (authoritiesIn authorities) live i
 
 abbrev μ-loop : tie.MeasureT-loop
-μ-loop n c r out₀ count i₀ out i = r .live - i
+μ-loop authorities₀ live n c i₀ authorities i = live - i
 
 loop-holds : tie.Need-loop-holds Inv-loop μ-loop
-loop-holds c = amend-start _ (c .pre) (search unmapped) _ _
+loop-holds c = changing-start (c .pre) (authorities-length _)
 
-mul-x : tie.Need-mul-x Inv-loop μ-loop
-mul-x c = omega arith
-
-element-copy-out-x : tie.Need-element-copy-out-x Inv-loop μ-loop
-element-copy-out-x c = omega arith
+authority-at-requires : tie.Need-authority-at-requires Inv-loop μ-loop
+authority-at-requires c κs = omega arith
 
 changed-requires : tie.Need-changed-requires Inv-loop μ-loop
 changed-requires c κs = tt
 
-mul-t16 : tie.Need-mul-t16 Inv-loop μ-loop
-mul-t16 c = omega arith
-
-element-set-from-out : tie.Need-element-set-from-out Inv-loop μ-loop
-element-set-from-out c = omega arith
+put-authority-requires : tie.Need-put-authority-requires Inv-loop μ-loop
+put-authority-requires c κs = omega arith
 
 add-i : tie.Need-add-i Inv-loop μ-loop
 add-i c = omega arith
@@ -42,14 +39,15 @@ loop-less c = omega arith
 
 loop-again : tie.Need-loop-again Inv-loop μ-loop
 loop-again c =
-    let a = c .before .before .before .before .before .loop .inv in
+    let at = c .before .before .before .before .before .before .loop .inv in
+    let here = c .before .before .before .authority-at .ensures in
     ⊎-elim
-    (λ w. amend-hit _ (omega arith) a (eq-eqb _ _ (w .0 .taken)) _ (w .1 .ensures) (w .2))
-    (λ w. amend-miss _ (omega arith) a (ne-eqb _ _ (w .0 .left)) (w .1))
+    (λ w. changing-hit at (omega arith) _ here (eq-eqb _ _ (w .0 .taken)) (w .2 .ensures) (ap authoritiesIn (w .4) ∙ w .3 .ensures))
+    (λ w. changing-miss at (omega arith) _ here (ne-eqb _ _ (w .0 .left)) (ap authoritiesIn (w .1)))
     (c .if1 .came)
 
 returns : tie.Need-returns Inv-loop μ-loop
-returns c = amend-end (omega arith) (c .before .loop .inv)
+returns c = changing-end (c .before .loop .inv) (omega arith)
 
 pub amend-spec : {M : Type 1} → statement M
 amend-spec =
@@ -58,11 +56,9 @@ amend-spec =
     Inv-loop
     μ-loop
     loop-holds
-    mul-x
-    element-copy-out-x
+    authority-at-requires
     changed-requires
-    mul-t16
-    element-set-from-out
+    put-authority-requires
     add-i
     loop-less
     loop-again

@@ -1,36 +1,32 @@
--- `held::end_authority` meets its contract. The invariant: the first j places hold what is kept of those before i. Assumes nothing.
+-- `held::end_authority` meets its contract. The invariant: the first j places hold what is kept of those before i, and those from i on are as
+-- they were. Assumes nothing.
 use Prim.Native.Nat.{_-_}
 use native.Mathlib.Omega.{arith}
 use mathlib.Core.Bool.{not}
 use mathlib.Core.Logic.{⊎-elim}
-use mathlib.Core.Path.{ap}
+use mathlib.Core.Path.{ap, _∙_}
 use borrow.Author.Tests.{eq-eqb, ne-eqb}
-use Rattle.lists.proofs.Prefix.{unmapped}
 use Rattle.rules.specs.Board.{isNotAuthority}
-use Rattle.held.proofs.AuthorityLaws.{Ending, end-start, end-hit, end-miss, end-end}
+use Rattle.places.specs.Places.{authoritiesIn}
+use Rattle.places.proofs.Registers.{authorities-length}
+use Rattle.held.proofs.Loops.{Keeping, keeping-start, keeping-hit, keeping-miss, keeping-end}
 use Rattle.held.proofs.authorities.end_authority.Statement.{statement}
 use Rattle.held.proofs.authorities.end_authority.Tie as tie
 
 abbrev Inv-loop : tie.InvT-loop
-Inv-loop n r out₀ count i₀ j₀ out i j = Ending (isNotAuthority (n .0)) r out i j
+Inv-loop authorities₀ live n i₀ j₀ authorities i j = Keeping (isNotAuthority (n .0)) (authoritiesIn authorities₀) (authoritiesIn authorities) live i j
 
 abbrev μ-loop : tie.MeasureT-loop
-μ-loop n r out₀ count i₀ j₀ out i j = r .live - i
+μ-loop authorities₀ live n i₀ j₀ authorities i j = live - i
 
 loop-holds : tie.Need-loop-holds Inv-loop μ-loop
-loop-holds c = end-start _ (c .pre) (search unmapped) _
+loop-holds c = keeping-start (c .pre) (authorities-length _)
 
-mul-x : tie.Need-mul-x Inv-loop μ-loop
-mul-x c = omega arith
+authority-at-requires : tie.Need-authority-at-requires Inv-loop μ-loop
+authority-at-requires c κs = omega arith
 
-element-copy-out-x : tie.Need-element-copy-out-x Inv-loop μ-loop
-element-copy-out-x c = omega arith
-
-mul-x-2 : tie.Need-mul-x-2 Inv-loop μ-loop
-mul-x-2 c = omega arith
-
-element-set-from-x : tie.Need-element-set-from-x Inv-loop μ-loop
-element-set-from-x c = omega arith
+put-authority-requires : tie.Need-put-authority-requires Inv-loop μ-loop
+put-authority-requires c κs = omega arith
 
 add-j : tie.Need-add-j Inv-loop μ-loop
 add-j c = omega arith
@@ -43,14 +39,15 @@ loop-less c = omega arith
 
 loop-again : tie.Need-loop-again Inv-loop μ-loop
 loop-again c =
-    let a = c .before .before .before .before .before .loop .inv in
+    let at = c .before .before .before .before .before .before .loop .inv in
+    let here = c .before .before .before .authority-at .ensures in
     ⊎-elim
-    (λ w. end-hit _ (omega arith) a (ap not (ne-eqb _ _ (w .0 .taken))) (w .1) (w .2))
-    (λ w. end-miss _ (omega arith) a (ap not (eq-eqb _ _ (w .0 .left))) (w .1) (w .2))
+    (λ w. keeping-hit at (omega arith) _ here (ap not (ne-eqb _ _ (w .0 .taken))) (ap authoritiesIn (w .3) ∙ w .2 .ensures) (w .4))
+    (λ w. keeping-miss at (omega arith) _ here (ap not (eq-eqb _ _ (w .0 .left))) (ap authoritiesIn (w .1)) (w .2))
     (c .if1 .came)
 
 returns : tie.Need-returns Inv-loop μ-loop
-returns c = end-end (omega arith) (c .before .loop .inv)
+returns c = keeping-end (c .before .loop .inv) (omega arith)
 
 pub end-authority-spec : {M : Type 1} → statement M
 end-authority-spec =
@@ -59,10 +56,8 @@ end-authority-spec =
     Inv-loop
     μ-loop
     loop-holds
-    mul-x
-    element-copy-out-x
-    mul-x-2
-    element-set-from-x
+    authority-at-requires
+    put-authority-requires
     add-j
     add-i
     loop-less

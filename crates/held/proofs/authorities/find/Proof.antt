@@ -1,33 +1,33 @@
--- `held::find` meets its contract. The invariant: none before i passes. Assumes nothing.
+-- `held::find` meets its contract. The invariant: none before i has the number. Assumes nothing.
 use Prim.Native.Nat.{_-_}
 use native.Mathlib.Omega.{arith}
-use mathlib.Core.Path.{sym, _∙_}
-use Rattle.lists.proofs.Prefix.{unmapped}
-use Rattle.held.specs.Authorities.{passesOf}
-use Rattle.held.proofs.AuthorityLaws.{Searching, search-start, search-hit, search-miss, search-end}
+use mathlib.Core.Path.{sym}
+use borrow.Author.Tests.{eq-eqb, ne-eqb}
+use Rattle.rules.specs.Board.{isAuthority, noAuthority}
+use Rattle.places.specs.Places.{authoritiesIn}
+use Rattle.places.proofs.Registers.{authorities-length}
+use Rattle.held.specs.Authorities.{foundIn}
+use Rattle.held.proofs.Loops.{Searching, search-start, search-hit, search-miss, search-end}
+use Rattle.held.proofs.AuthorityLaws.{found-searches}
 use Rattle.held.proofs.authorities.find.Statement.{statement}
 use Rattle.held.proofs.authorities.find.Tie as tie
 
 abbrev Inv-loop : tie.InvT-loop
-Inv-loop q r count i₀ i = Searching (passesOf q) r i
+Inv-loop authorities live n i₀ i = Searching (foundIn (isAuthority (n .0))) (authoritiesIn authorities) live i
 
 abbrev μ-loop : tie.MeasureT-loop
-μ-loop q r count i₀ i = r .live - i
+μ-loop authorities live n i₀ i = live - i
 
 loop-holds : tie.Need-loop-holds Inv-loop μ-loop
-loop-holds c = search-start _ (c .pre) (search unmapped) _
+loop-holds c = search-start (c .pre) (authorities-length _)
 
-mul-x : tie.Need-mul-x Inv-loop μ-loop
-mul-x c = omega arith
-
-element-copy-out-x : tie.Need-element-copy-out-x Inv-loop μ-loop
-element-copy-out-x c = omega arith
-
-passes-requires : tie.Need-passes-requires Inv-loop μ-loop
-passes-requires c κs = tt
+authority-at-requires : tie.Need-authority-at-requires Inv-loop μ-loop
+authority-at-requires c κs = omega arith
 
 returns : tie.Need-returns Inv-loop μ-loop
-returns c = sym (search-hit _ (omega arith) (c .before .before .before .before .loop .inv) (sym (c .before .passes .ensures) ∙ c .if1 .taken))
+returns c =
+    let at = c .before .before .before .before .before .loop .inv in
+    sym (search-hit (found-searches _) at _ (omega arith) (c .before .before .before .authority-at .ensures) (eq-eqb _ _ (c .if1 .taken)))
 
 add-i : tie.Need-add-i Inv-loop μ-loop
 add-i c = omega arith
@@ -36,10 +36,12 @@ loop-less : tie.Need-loop-less Inv-loop μ-loop
 loop-less c = omega arith
 
 loop-again : tie.Need-loop-again Inv-loop μ-loop
-loop-again c = search-miss _ (omega arith) (c .before .before .before .before .loop .inv) (sym (c .before .passes .ensures) ∙ c .if1 .left)
+loop-again c =
+    let at = c .before .before .before .before .before .loop .inv in
+    search-miss (found-searches _) at _ (omega arith) (c .before .before .before .authority-at .ensures) (ne-eqb _ _ (c .if1 .left))
 
 returns-2 : tie.Need-returns-2 Inv-loop μ-loop
-returns-2 c = sym (search-end (omega arith) (c .before .loop .inv))
+returns-2 c = sym (search-end (found-searches _) (c .before .loop .inv) noAuthority (omega arith))
 
 pub find-spec : {M : Type 1} → statement M
 find-spec =
@@ -48,9 +50,7 @@ find-spec =
     Inv-loop
     μ-loop
     loop-holds
-    mul-x
-    element-copy-out-x
-    passes-requires
+    authority-at-requires
     returns
     add-i
     loop-less

@@ -1,7 +1,6 @@
 -- `held::is_clashing` meets its contract. Assumes nothing.
 use borrow.Author.Needs.{needs}
 use Rattle.rules.specs.Refusals.{clashes}
-use Rattle.held.specs.Authorities.{passesOf}
 use Rattle.held.proofs.authorities.is_clashing.Statement.{statement}
 use Rattle.held.proofs.authorities.is_clashing.Tie as tie
 
@@ -12,7 +11,7 @@ is-twa-requires : tie.Need-is-twa-requires
 is-twa-requires c κs = search needs
 
 returns : tie.Need-returns
-unfolding passesOf clashes
+unfolding clashes
 returns c = rw (c .before .before .before .overlap .ensures, c .before .before .is-twa .ensures)
 
 pub is-clashing-spec : {M : Type 1} → statement M

@@ -1,31 +1,26 @@
--- `held::trains::change_trains` meets its contract: the register is as it was but for its trains before i, which are changed. Assumes nothing.
-use Prim.Native.Nat.{_≤_, _-_}
+-- `held::trains::change_trains` meets its contract. The invariant: the places before i are changed, and nothing else. Assumes nothing.
+use Prim.Native.Nat.{_-_}
 use native.Mathlib.Omega.{arith}
 use mathlib.Core.Logic.{⊎-elim}
-use mathlib.Core.Path.{_≡_, refl, sym, _∙_}
-use lib.ListN.{length}
-use borrow.Author.Needs.{needs}
-use Rattle.lists.proofs.Prefix.{unmapped, changedTo, change-start, change-hit, change-miss, change-end}
-use Rattle.rules.specs.Board.{boardOf, noTrain}
-use Rattle.held.specs.Trains.{trainTest, trainChange, withTrainPlaces}
+use mathlib.Core.Path.{sym, ap, _∙_}
+use Rattle.places.specs.Places.{trainsIn}
+use Rattle.places.proofs.Registers.{trains-length}
+use Rattle.held.specs.Trains.{trainTest, trainChange}
+use Rattle.held.proofs.Loops.{Changing, changing-start, changing-hit, changing-miss, changing-end}
 use Rattle.held.proofs.trains.change_trains.Statement.{statement}
 use Rattle.held.proofs.trains.change_trains.Tie as tie
 
 abbrev Inv-loop : tie.InvT-loop
-Inv-loop c r out₀ count i₀ out i =
-    (i ≤ count) × (length (r .trains) ≡ 32) × (out ≡ withTrainPlaces (changedTo (trainTest c) (trainChange c) i (r .trains)) (r .running) r)
+Inv-loop trains₀ running c i₀ trains i = Changing (trainTest c) (trainChange c) (trainsIn trains₀) (trainsIn trains) running i
 
 abbrev μ-loop : tie.MeasureT-loop
-μ-loop c r out₀ count i₀ out i = count - i
+μ-loop trains₀ running c i₀ trains i = running - i
 
 loop-holds : tie.Need-loop-holds Inv-loop μ-loop
-loop-holds c = (search needs, search unmapped, rw change-start)
+loop-holds c = changing-start (c .pre) (trains-length _)
 
-mul-t : tie.Need-mul-t Inv-loop μ-loop
-mul-t c = omega arith
-
-element-copy-out-t : tie.Need-element-copy-out-t Inv-loop μ-loop
-element-copy-out-t c = omega arith
+train-at-requires : tie.Need-train-at-requires Inv-loop μ-loop
+train-at-requires c κs = omega arith
 
 is-changed-requires : tie.Need-is-changed-requires Inv-loop μ-loop
 is-changed-requires c κs = tt
@@ -33,11 +28,8 @@ is-changed-requires c κs = tt
 changed-train-requires : tie.Need-changed-train-requires Inv-loop μ-loop
 changed-train-requires c κs = tt
 
-mul-t16 : tie.Need-mul-t16 Inv-loop μ-loop
-mul-t16 c = omega arith
-
-element-set-from-out : tie.Need-element-set-from-out Inv-loop μ-loop
-element-set-from-out c = omega arith
+put-train-requires : tie.Need-put-train-requires Inv-loop μ-loop
+put-train-requires c κs = omega arith
 
 add-i : tie.Need-add-i Inv-loop μ-loop
 add-i c = omega arith
@@ -47,24 +39,16 @@ loop-less c = omega arith
 
 loop-again : tie.Need-loop-again Inv-loop μ-loop
 loop-again c =
-    let s = c .before .before .before .before in
-    let a = s .before .args in
-    let (to-i, long, same) = s .loop .inv in
+    let at = c .before .before .before .before .before .loop .inv in
+    let here = c .before .before .train-at .ensures in
     let test = sym (c .before .is-changed .ensures) in
-    let hit = change-hit (trainTest (a .c)) (trainChange (a .c)) (a .t1 .trains) (s .loop .i) noTrain (omega arith) in
-    let miss = change-miss (trainTest (a .c)) (trainChange (a .c)) (a .t1 .trains) (s .loop .i) noTrain (omega arith) in
     ⊎-elim
-    (λ w. (omega arith, long, rw (w .2, w .1 .ensures, same, hit (test ∙ w .0 .taken))))
-    (λ w. (omega arith, long, rw (w .1, same, miss (test ∙ w .0 .left))))
+    (λ w. changing-hit at (omega arith) _ here (test ∙ w .0 .taken) (w .2 .ensures) (ap trainsIn (w .4) ∙ w .3 .ensures))
+    (λ w. changing-miss at (omega arith) _ here (test ∙ w .0 .left) (ap trainsIn (w .1)))
     (c .if1 .came)
 
 returns : tie.Need-returns Inv-loop μ-loop
-unfolding boardOf
-returns c =
-    let s = c .before in
-    let (to-i, long, same) = s .loop .inv in
-    let e : s .loop .i ≡ s .before .args .t1 .running = omega arith in
-    rw (same, e) (record { rest = refl; held = change-end _ _ _ _ (omega arith); within = omega arith })
+returns c = changing-end (c .before .loop .inv) (omega arith)
 
 pub change-trains-spec : {M : Type 1} → statement M
 change-trains-spec =
@@ -73,12 +57,10 @@ change-trains-spec =
     Inv-loop
     μ-loop
     loop-holds
-    mul-t
-    element-copy-out-t
+    train-at-requires
     is-changed-requires
     changed-train-requires
-    mul-t16
-    element-set-from-out
+    put-train-requires
     add-i
     loop-less
     loop-again

@@ -3,43 +3,42 @@
 use Prim.Native.Nat.{_≤_, _-_}
 use native.Mathlib.Omega.{arith}
 use mathlib.Core.Path.{_≡_, refl, sym, _∙_}
-use lib.ListN.{length, drop}
-use borrow.Author.Needs.{needs}
-use Rattle.lists.specs.Search.{any}
+use lib.ListN.{drop}
 use Rattle.lists.specs.Prefix.{prefix}
-use Rattle.lists.proofs.Prefix.{unmapped, any-hit, any-miss, any-end}
-use Rattle.rules.specs.Board.{boardOf}
-use Rattle.held.specs.declared.trains.FoundTrain.the-variants.{Nothing}
+use Rattle.lists.specs.Search.{any}
+use Rattle.lists.proofs.Prefix.{any-hit, any-miss, any-end}
+use Rattle.rules.specs.Board.{noTrain}
+use Rattle.places.specs.Places.{trainsIn}
+use Rattle.places.proofs.Registers.{trains-length}
 use Rattle.held.specs.Trains.{endPasses, trainPasses, foundTrain}
-use Rattle.held.proofs.TrainLaws.{either-end, found-hit, found-miss, found-end}
+use Rattle.held.specs.declared.trains.FoundTrain.the-variants.{Nothing}
+use Rattle.held.proofs.Loops.{Searching, search-start, search-hit, search-miss, search-end}
+use Rattle.held.proofs.TrainLaws.{train-searches, either-end}
 use Rattle.held.proofs.trains.find_train.Statement.{statement}
 use Rattle.held.proofs.trains.find_train.Tie as tie
 
 abbrev Inv-loop : tie.InvT-loop
-Inv-loop q r count found₀ i t ends k₀ found k = (k ≤ 2) × (found ≡ Nothing) × (trainPasses q t ≡ any (endPasses q t) (drop k (prefix 2 ends)))
+Inv-loop trains running q found₀ i t ends k₀ found k =
+    (k ≤ 2) × (found ≡ Nothing) × (trainPasses q t ≡ any (endPasses q t) (drop k (prefix 2 ends)))
 
 abbrev μ-loop : tie.MeasureT-loop
-μ-loop q r count found₀ i t ends k₀ found k = 2 - k
+μ-loop trains running q found₀ i t ends k₀ found k = 2 - k
 
 abbrev Inv-search : tie.InvT-search
-Inv-search q r count found₀ i₀ found i =
-    (i ≤ count) × (length (r .trains) ≡ 32) × (found ≡ Nothing)
-    × (foundTrain (trainPasses q) (prefix count (r .trains)) ≡ foundTrain (trainPasses q) (drop i (prefix count (r .trains))))
+Inv-search trains running q found₀ i₀ found i =
+    (found ≡ Nothing) × Searching (foundTrain (trainPasses q)) (trainsIn trains) running i
 
 abbrev μ-search : tie.MeasureT-search
-μ-search q r count found₀ i₀ found i = count - i
+μ-search trains running q found₀ i₀ found i = running - i
 
 search-holds : tie.Need-search-holds Inv-loop μ-loop Inv-search μ-search
-search-holds c = (search needs, search unmapped, refl, refl)
+search-holds c = (refl, search-start (c .pre) (trains-length _))
 
-mul-t : tie.Need-mul-t Inv-loop μ-loop Inv-search μ-search
-mul-t c = omega arith
-
-element-copy-out-t : tie.Need-element-copy-out-t Inv-loop μ-loop Inv-search μ-search
-element-copy-out-t c = omega arith
+train-at-requires : tie.Need-train-at-requires Inv-loop μ-loop Inv-search μ-search
+train-at-requires c κs = omega arith
 
 loop-holds : tie.Need-loop-holds Inv-loop μ-loop Inv-search μ-search
-loop-holds c = (search needs, c .before .before .search .inv .2, either-end _ _)
+loop-holds c = (omega arith, c .before .before .search .inv .0, either-end _ _)
 
 mul-passes-at : tie.Need-mul-passes-at Inv-loop μ-loop Inv-search μ-search
 mul-passes-at c = omega arith
@@ -73,24 +72,20 @@ search-again c =
     let s = c .before .before .before .before in
     let l = c .before .loop in
     let none = l .inv .2 ∙ any-end _ 2 (l .k) _ (omega arith) in
-    let r = s .before .args .t1 in
-    let miss = found-miss (trainPasses (s .before .args .q)) (r .trains) (r .running) (s .search .i) (omega arith) (omega arith) none in
-    (omega arith, s .search .inv .1, l .inv .1, s .search .inv .3 ∙ miss)
+    (l .inv .1, search-miss (train-searches _) (s .search .inv .1) _ (omega arith) (c .before .before .train-at .ensures) none)
 
 returns : tie.Need-returns Inv-loop μ-loop Inv-search μ-search
-unfolding boardOf
 returns c =
-    let s = c .before in
-    s .search .inv .2 ∙ sym (s .search .inv .3 ∙ found-end _ _ (s .before .args .t1 .running) (s .search .i) (omega arith))
+    let s = c .before .search in
+    s .inv .0 ∙ sym (search-end (train-searches _) (s .inv .1) noTrain (omega arith))
 
 returns-2 : tie.Need-returns-2 Inv-loop μ-loop Inv-search μ-search
-unfolding boardOf
 returns-2 c =
     let l = c .before .before .before in
     let s = l .before .before .before in
     let test = sym (c .before .passes-at .ensures) ∙ c .if1 .taken in
     let hit = l .loop .inv .2 ∙ any-hit _ 2 (l .loop .k) 0 (omega arith) (omega arith) _ test in
-    sym (s .search .inv .3 ∙ found-hit _ (s .before .args .t1 .trains) _ (s .search .i) (omega arith) (omega arith) hit)
+    sym (search-hit (train-searches _) (s .search .inv .1) _ (omega arith) (l .before .train-at .ensures) hit)
 
 pub find-train-spec : {M : Type 1} → statement M
 find-train-spec =
@@ -101,8 +96,7 @@ find-train-spec =
     Inv-search
     μ-search
     search-holds
-    mul-t
-    element-copy-out-t
+    train-at-requires
     loop-holds
     mul-passes-at
     array-read-passes-at

@@ -3,28 +3,26 @@ use mathlib.Core.Path.{_≡_, sym, ap, _∙_}
 use mathlib.Core.Logic.{⊎-elim}
 use Prim.Native.Nat.{_-_, _≤_}
 use native.Mathlib.Omega.{arith}
-use lib.ListN.{length}
-use Rattle.lists.proofs.Prefix.{unmapped}
 use Rattle.portions.specs.Sets.{insert}
 use Rattle.portions.proofs.Laws.{setOf-start}
+use Rattle.rules.specs.Board.{needs}
+use Rattle.places.specs.Places.{gatesIn}
+use Rattle.places.proofs.Registers.{gates-length}
 use Rattle.plan.proofs.Needs.{neededTo, needed-next, needed-same, needed-all}
 use Rattle.plan.proofs.gates.needed.Statement.{statement}
 use Rattle.plan.proofs.gates.needed.Tie as tie
 
 abbrev Inv-loop : tie.InvT-loop
-Inv-loop count limits gates set₀ i₀ set i = (i ≤ count) × (set ≡ neededTo gates count limits i)
+Inv-loop gates count limits set₀ i₀ set i = (i ≤ count) × (set ≡ neededTo (gatesIn gates) count limits i)
 
 abbrev μ-loop : tie.MeasureT-loop
-μ-loop count limits gates set₀ i₀ set i = count - i
+μ-loop gates count limits set₀ i₀ set i = count - i
 
 loop-holds : tie.Need-loop-holds Inv-loop μ-loop
 loop-holds c = (omega arith, sym (setOf-start _))
 
-mul-gate : tie.Need-mul-gate Inv-loop μ-loop
-mul-gate c = omega arith
-
-array-copy-out-gate : tie.Need-array-copy-out-gate Inv-loop μ-loop
-array-copy-out-gate c = omega arith
+gate-at-requires : tie.Need-gate-at-requires Inv-loop μ-loop
+gate-at-requires c κs = omega arith
 
 is-needed-requires : tie.Need-is-needed-requires Inv-loop μ-loop
 is-needed-requires c κs = tt
@@ -46,19 +44,19 @@ loop-again c =
     let h = c .before .before .before .before in
     let i = h .loop .i in
     let a = h .before .args in
-    let e = sym (c .before .is-needed .ensures) in (
+    let gates = gatesIn (a .gates .now) in
+    let e = sym (c .before .is-needed .ensures ∙ ap (needs (a .limits)) (c .before .before .gate-at .ensures)) in (
       omega arith,
       ⊎-elim
-          (λ w. w .2 ∙ w .1 .ensures ∙ ap (insert i) (h .loop .inv .1) ∙ needed-next (a .t1) _ _ i (omega arith) (omega arith) (e ∙ w .0 .taken))
-          (λ w. w .1 ∙ h .loop .inv .1 ∙ needed-same (a .t1) _ _ i (omega arith) (e ∙ w .0 .left))
+          (λ w. w .2 ∙ w .1 .ensures ∙ ap (insert i) (h .loop .inv .1) ∙ needed-next gates _ _ i (omega arith) (omega arith) (e ∙ w .0 .taken))
+          (λ w. w .1 ∙ h .loop .inv .1 ∙ needed-same gates _ _ i (omega arith) (e ∙ w .0 .left))
           (c .if1 .came),
     )
 
 returns : tie.Need-returns Inv-loop μ-loop
 returns c =
-    let a = c .before .before .args in
-    let full : length (a .t1) ≡ 64 = search unmapped in
-    c .before .loop .inv .1 ∙ needed-all (a .t1) _ _ _ (omega arith) (omega arith)
+    let gates = c .before .before .args .gates .now in
+    c .before .loop .inv .1 ∙ needed-all (gatesIn gates) _ _ _ (omega (arith, gates-length gates)) (omega arith)
 
 pub needed-spec : {M : Type 1} → statement M
 needed-spec =
@@ -67,8 +65,7 @@ needed-spec =
     Inv-loop
     μ-loop
     loop-holds
-    mul-gate
-    array-copy-out-gate
+    gate-at-requires
     is-needed-requires
     cast-with
     with-requires

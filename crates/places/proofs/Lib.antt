@@ -1,0 +1,5 @@
+-- The laws of this crate.
+pub mod Groups
+pub mod Lent
+pub mod Copying
+pub mod Registers

@@ -1,0 +1,35 @@
+-- What a head and three arrays tell of the register that they stand for. Assumes nothing.
+use Prim.Native.Nat.{ℕ}
+use mathlib.Core.Path.{_≡_}
+use mathlib.Core.List.{List}
+use lib.ListN.{length}
+use Rattle.rules.specs.declared.Register.{Register}
+use Rattle.rules.specs.Step.{Bounds}
+use Rattle.places.specs.declared.whole.Head.{Head}
+use Rattle.places.specs.Places.{gateFrom, authorityFrom, trainFrom, gatesIn, authoritiesIn, trainsIn, headOf, registerIn, HeadBounds}
+use Rattle.places.proofs.Groups.{length-places}
+
+pub gates-length : (l : List ℕ) → length (gatesIn l) ≡ 64
+unfolding gatesIn
+gates-length l = length-places gateFrom 3 64 l
+
+pub authorities-length : (l : List ℕ) → length (authoritiesIn l) ≡ 32
+unfolding authoritiesIn
+authorities-length l = length-places authorityFrom 8 32 l
+
+pub trains-length : (l : List ℕ) → length (trainsIn l) ≡ 32
+unfolding trainsIn
+trains-length l = length-places trainFrom 4 32 l
+
+-- a register put into a head and three arrays
+pub spread-register : (r : Register) (g a t : List ℕ) → gatesIn g ≡ r .gates → authoritiesIn a ≡ r .authorities → trainsIn t ≡ r .trains
+    → registerIn (headOf r) g a t ≡ r
+spread-register r g a t eg ea et = rw (eg, ea, et)
+
+-- its bounds are the head's
+module _ (h : Head) (g a t : List ℕ) where
+  pub bounds-in : HeadBounds h → Bounds (registerIn h g a t)
+  bounds-in b = record { portions = b .portions; gates = b .gates; live = b .live; running = b .running }
+
+  pub head-bounds : Bounds (registerIn h g a t) → HeadBounds h
+  head-bounds b = record { portions = b .portions; gates = b .gates; live = b .live; running = b .running }

@@ -1,0 +1,54 @@
+-- `places::whole::write_gates` meets its contract. The invariant: the first i gates are stored. Assumes nothing.
+use Prim.Native.Nat.{_-_}
+use native.Mathlib.Omega.{arith}
+use Rattle.lists.proofs.Prefix.{unmapped}
+use Rattle.places.specs.Places.{gatesIn}
+use Rattle.places.proofs.Copying.{Copied, copy-start, copy-next, copy-end}
+use Rattle.places.proofs.Registers.{gates-length}
+use Rattle.places.proofs.whole.write_gates.Statement.{statement}
+use Rattle.places.proofs.whole.write_gates.Tie as tie
+
+abbrev Inv-loop : tie.InvT-loop
+Inv-loop gates₀ r i₀ gates i = Copied 64 i (r .gates) (gatesIn gates)
+
+abbrev μ-loop : tie.MeasureT-loop
+μ-loop gates₀ r i₀ gates i = 64 - i
+
+loop-holds : tie.Need-loop-holds Inv-loop μ-loop
+loop-holds c = copy-start (search unmapped) (gates-length _)
+
+mul-put-gate : tie.Need-mul-put-gate Inv-loop μ-loop
+mul-put-gate c = omega arith
+
+element-copy-out-put-gate : tie.Need-element-copy-out-put-gate Inv-loop μ-loop
+element-copy-out-put-gate c = omega arith
+
+put-gate-requires : tie.Need-put-gate-requires Inv-loop μ-loop
+put-gate-requires c κs = omega arith
+
+add-i : tie.Need-add-i Inv-loop μ-loop
+add-i c = omega arith
+
+loop-less : tie.Need-loop-less Inv-loop μ-loop
+loop-less c = omega arith
+
+loop-again : tie.Need-loop-again Inv-loop μ-loop
+loop-again c = copy-next _ (omega arith) (c .before .before .before .before .loop .inv) (c .put-gate .ensures)
+
+returns : tie.Need-returns Inv-loop μ-loop
+returns c = copy-end (omega arith) (c .before .loop .inv)
+
+pub write-gates-spec : {M : Type 1} → statement M
+write-gates-spec =
+    tie.close
+    (tie.spec
+    Inv-loop
+    μ-loop
+    loop-holds
+    mul-put-gate
+    element-copy-out-put-gate
+    put-gate-requires
+    add-i
+    loop-less
+    loop-again
+    returns)
