@@ -78,9 +78,9 @@ pub fn find(authorities: &[u64; 256], live: usize, n: AuthorityNo) -> Found
 {
     let mut i: usize = 0;
     while i < live {
-        let x = authority_at(authorities, i);
-        if x.number.0 == n.0 {
-            return Found::Is(x);
+        let a = authority_at(authorities, i);
+        if a.number.0 == n.0 {
+            return Found::Is(a);
         }
         i += 1;
     }

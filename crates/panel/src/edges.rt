@@ -1,9 +1,9 @@
 // The cases that no file of calls can show: buffers of other lengths, and the last number allotted.
 ghost use Rattle.rules.specs.Step.{Kept};
 use crate::scenario::open_board;
-use crate::scenario::print;
-use crate::scenario::print_number;
 use crate::scenario::put_call;
+use folder::print;
+use folder::print_number;
 use rules::Register;
 use rules::Seven;
 

@@ -1,0 +1,16 @@
+-- What single steps of the code compute. Only the contracts of private functions cite these; the laws in proofs/ tie them to
+-- `readColumn`, so a reader of the public contract need not believe them. Assumes nothing.
+use Prim.Native.Nat.{ℕ}
+use mathlib.Core.Bool.{Bool, cond, _&&_}
+use lib.Dec.{eqb, leb}
+use Rattle.columns.specs.declared.read.Read.{Read}
+use Rattle.columns.specs.declared.read.Read.the-variants.{Number, Malformed}
+use Rattle.calls.specs.declared.text.Six.{Six}
+
+-- the byte is a digit where one is due, else a blank
+abbrev pub isMark : Bool → ℕ → Bool
+isMark due b = cond due (leb 48 b && leb b 57) (eqb b 32)
+
+-- what a column holds, as `read_six` answers it
+unfoldable pub readOf : Six → Read
+readOf x = cond (x .whole) (Number (x .value)) Malformed
