@@ -2,7 +2,4 @@
 pub mod Taking
 pub mod Opening
 pub mod Writing
-pub mod Conditions
-pub mod Changing
-pub mod Finding
 pub mod Ran

@@ -11,7 +11,7 @@ use Rattle.rules.specs.Step.{Bounds, Once, OpenPost}
 use Rattle.rules.proofs.Once.{once-opened}
 use Rattle.plan.specs.declared.text.Plan.{Plan}
 use Rattle.plan.specs.Lines.{PlanRead}
-use Rattle.board.specs.Effects.{freshWith}
+use Rattle.board.specs.Steps.{freshWith}
 
 -- the answer, from whether the text was a plan
 pub plan-read : (text : List ℕ) (p : Plan) → PlanRead text p → p .ok ≡ true → 0 ≡ openAnswer text

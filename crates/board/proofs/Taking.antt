@@ -23,12 +23,13 @@ use Rattle.rules.proofs.Accepted.{Ranges, in-ranges}
 use Rattle.rules.proofs.Answers.{refused-same, refused-none, short-answer, short-line, long-line}
 use Rattle.rules.proofs.Once.{once-after}
 use Rattle.places.specs.declared.whole.Head.{Head}
-use Rattle.places.specs.Places.{gatesIn, authoritiesIn, trainsIn, headOf, registerIn, HeadBounds}
+use Rattle.places.specs.Places.{gatesIn, authoritiesIn, trainsIn, headOf, registerIn, HeadBounds, boardIn}
 use Rattle.places.proofs.Registers.{spread-register}
-use Rattle.board.specs.Lent.{boardIn, TakePost}
-use Rattle.board.specs.Faults.{faultOf, withRoom}
-use Rattle.board.specs.Effects.{EffectPost}
-use Rattle.board.proofs.Conditions.{gates-in-use}
+use Rattle.board.specs.Lent.{TakePost}
+use Rattle.answers.specs.Faults.{faultOf}
+use Rattle.board.specs.Steps.{withRoom}
+use Rattle.effects.specs.Effects.{EffectPost}
+use Rattle.answers.proofs.Conditions.{gates-in-use}
 
 -- ---- what the decoded call says of the answer
 

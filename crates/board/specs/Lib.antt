@@ -1,4 +1,3 @@
--- What the contracts of this crate's private functions cite beside the rules.
+-- What the contracts of this crate cite beside the rules.
 pub mod Lent
-pub mod Faults
-pub mod Effects
+pub mod Steps

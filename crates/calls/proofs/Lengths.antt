@@ -2,7 +2,7 @@
 use Prim.Native.Nat.{ℕ, zero, suc, _*_, _≤_}
 use native.Mathlib.Omega.{arith}
 use mathlib.Core.Path.{_≡_, refl}
-use mathlib.Core.Bool.{Bool, true, false, cond, _&&_}
+use mathlib.Core.Bool.{true, _&&_}
 use mathlib.Core.List.{List, [], _∷_}
 use lib.ListN.{length, take, drop, length-append}
 use lib.Dec.{eqb, leb}
@@ -11,12 +11,10 @@ use Rattle.lists.proofs.Tests.{and-l, and-r}
 use Rattle.lists.proofs.Search.{Each}
 use Rattle.columns.proofs.Rows.{atMost}
 use Rattle.rules.specs.declared.Seven.{Seven}
-use Rattle.rules.specs.declared.Call.{Call}
-use Rattle.rules.specs.declared.Call.the-variants.{NoSuchCall, BadField, Request, Withdraw, Agree, Block, Unblock, Grant, Clear, Reoccupy, HandOver, Fulfil, Continue, Move, Passed}
 use Rattle.rules.specs.Board.{Board}
-use Rattle.rules.specs.Call.{named}
-use Rattle.rules.specs.Refusals.{Refusal, lowest, own, conditions, answer}
+use Rattle.rules.specs.Refusals.{answer}
 use Rattle.rules.specs.Step.{Once, after, allotted}
+use Rattle.rules.proofs.Answers.{cond-most, answer-19}
 use Rattle.rules.proofs.Once.{once-after}
 use Rattle.rules.proofs.Lines.{Small, line-55}
 use Rattle.calls.specs.declared.text.Line.{Line}
@@ -25,46 +23,6 @@ use Rattle.calls.specs.Lines.{lineIn, unlessMalformed, callsIn}
 use Rattle.calls.specs.Run.{journal, runOf}
 use Rattle.calls.proofs.Texts.{numbersOf, call-line}
 use Rattle.calls.proofs.Parts.{lineOn}
-
--- ---- an answer is 0 or one of the 19 refusals
-
--- no number of the list is above 19
-upTo19 : List Refusal → Bool
-upTo19 [] = true
-upTo19 (r ∷ rs) = leb (r .number) 19 && upTo19 rs
-
-own-19 : (b : Board) (s : Seven) (c : Call) → upTo19 (own b s c) ≡ true
-unfolding upTo19 own
-own-19 b s NoSuchCall = refl
-own-19 b s BadField = refl
-own-19 b s (Request kind first last officer) = refl
-own-19 b s (Withdraw n officer) = refl
-own-19 b s (Agree toa twa officer) = refl
-own-19 b s (Block g) = refl
-own-19 b s (Unblock g) = refl
-own-19 b s (Grant n officer) = refl
-own-19 b s (Clear n officer) = refl
-own-19 b s (Reoccupy n officer) = refl
-own-19 b s (HandOver n out into) = refl
-own-19 b s (Fulfil n officer assurances) = refl
-own-19 b s (Continue old new officerOld officerNew) = refl
-own-19 b s (Move t g n officer) = refl
-own-19 b s (Passed t) = refl
-
-cond-most : (t : Bool) (x y most : ℕ) → x ≤ most → y ≤ most → cond t x y ≤ most
-cond-most true x y most h k = h
-cond-most false x y most h k = k
-
-lowest-19 : (rs : List Refusal) → upTo19 rs ≡ true → lowest rs ≤ 19
-unfolding upTo19 lowest
-lowest-19 [] h = omega arith
-lowest-19 (r ∷ rs) h =
-    cond-most (r .holds) (r .number) (lowest rs) 19 (leb-true (r .number) 19 (and-l (leb (r .number) 19) (upTo19 rs) h))
-    (lowest-19 rs (and-r (leb (r .number) 19) (upTo19 rs) h))
-
-pub answer-19 : (b : Board) (s : Seven) (room : ℕ) → answer b s room ≤ 19
-unfolding answer conditions upTo19
-answer-19 b s room = lowest-19 (conditions b s room) (own-19 b s (named s))
 
 -- ---- a journal line
 

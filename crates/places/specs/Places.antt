@@ -8,6 +8,7 @@ use Rattle.rules.specs.declared.Gate.{Gate}
 use Rattle.rules.specs.declared.Authority.{Authority}
 use Rattle.rules.specs.declared.Train.{Train}
 use Rattle.rules.specs.declared.Register.{Register}
+use Rattle.rules.specs.Board.{Board, boardOf}
 use Rattle.rules.specs.Call.{kindOf}
 use Rattle.places.specs.declared.whole.Head.{Head}
 
@@ -81,6 +82,10 @@ registerIn h gates authorities trains = record {
   running = h .running;
   trains = trainsIn trains;
 }
+
+-- the board that they stand for
+abbrev pub boardIn : Head → List ℕ → List ℕ → List ℕ → Board
+boardIn h gates authorities trains = boardOf (registerIn h gates authorities trains)
 
 -- the counts are within the arrays, and the portions fit a set: what `Bounds` asks of the register
 pub record HeadBounds (h : Head) : Type 0 where

@@ -1,5 +1,5 @@
 -- Demands 1 and 2 of the rules: "the lowest number whose condition holds is given", accepted exactly where no condition holds, and
--- what a refused call leaves. Assumes nothing.
+-- what a refused call leaves; and that no answer is above 19. Assumes nothing.
 use Prim.Native.Nat.{ℕ, zero, _≤_, _<_}
 use native.Mathlib.Omega.{arith}
 use mathlib.Core.Path.{_≡_, refl, sym, ap, _∙_}
@@ -7,8 +7,8 @@ use mathlib.Core.Logic.{⊎-elim}
 use mathlib.Core.Bool.{Bool, true, false, cond, not, _&&_, false≢true}
 use mathlib.Core.List.{List, [], _∷_, _++_, List·Memᴰ·head, List·Memᴰ·tail, List·Memᴰ·cases-cons}
 use lib.ListN.{length, drop}
-use lib.Dec.{eqb, ltb}
-use borrow.Author.Tests.{ltb-true, ne-eqb, lt-ltb, le-ltb}
+use lib.Dec.{eqb, leb, ltb}
+use borrow.Author.Tests.{ltb-true, leb-true, ne-eqb, lt-ltb, le-ltb}
 use Rattle.lists.proofs.Tests.{and-l, and-r}
 use Rattle.lists.proofs.Search.{Member}
 use Rattle.rules.specs.declared.Seven.{Seven}
@@ -22,9 +22,9 @@ use Rattle.rules.specs.Step.{after, allotted}
 
 -- ---- every list of conditions is ascending
 
--- the numbers ascend, all above n
+-- the numbers ascend, all above n, none above 19
 unfoldable pub ascends : ℕ → List Refusal → Bool
-ascends n [] = true
+ascends n [] = leb n 19
 ascends n (r ∷ rs) = ltb n (r .number) && ascends (r .number) rs
 
 own-ascends : (b : Board) (s : Seven) (c : Call) → ascends 4 (own b s c) ≡ true
@@ -185,3 +185,28 @@ pub at-none : (n : ℕ) (rs : List Refusal) → NoneHolds rs → conditionAt n r
 unfolding conditionAt
 at-none n [] h = refl
 at-none n (r ∷ rs) h = at-step n r rs (h r (List·Memᴰ·head refl)) (at-none n rs (λ q m. h q (List·Memᴰ·tail m))) (eqb (r .number) n)
+
+-- ---- an answer is 0 or one of the 19 refusals
+
+pub cond-most : (t : Bool) (x y most : ℕ) → x ≤ most → y ≤ most → cond t x y ≤ most
+cond-most true x y most h k = h
+cond-most false x y most h k = k
+
+-- what the numbers are above is itself at most 19
+below-19 : (n : ℕ) (rs : List Refusal) → ascends n rs ≡ true → n ≤ 19
+unfolding ascends
+below-19 n [] h = leb-true n 19 h
+below-19 n (r ∷ rs) h =
+    let more = ltb-true n (r .number) (and-l (ltb n (r .number)) (ascends (r .number) rs) h) in
+    omega (arith, below-19 (r .number) rs (and-r (ltb n (r .number)) (ascends (r .number) rs) h))
+
+lowest-19 : (n : ℕ) (rs : List Refusal) → ascends n rs ≡ true → lowest rs ≤ 19
+unfolding ascends lowest
+lowest-19 n [] h = omega arith
+lowest-19 n (r ∷ rs) h =
+    let rest = and-r (ltb n (r .number)) (ascends (r .number) rs) h in
+    cond-most (r .holds) (r .number) (lowest rs) 19 (below-19 (r .number) rs rest) (lowest-19 (r .number) rs rest)
+
+pub answer-19 : (b : Board) (s : Seven) (room : ℕ) → answer b s room ≤ 19
+unfolding answer
+answer-19 b s room = lowest-19 0 (conditions b s room) (ascending b s room)

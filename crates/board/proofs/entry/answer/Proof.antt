@@ -2,7 +2,7 @@
 use borrow.Author.Needs.{needs}
 use mathlib.Core.Path.{sym, _∙_}
 use denote.Ref.{now}
-use Rattle.board.specs.Lent.{boardIn}
+use Rattle.places.specs.Places.{boardIn}
 use Rattle.board.proofs.Taking.{Decoded, head-decoded, fault-answer, early-answer, own-answer}
 use Rattle.board.proofs.entry.answer.Statement.{statement}
 use Rattle.board.proofs.entry.answer.Tie as tie

@@ -6,7 +6,7 @@ use denote.Ref.{now}
 use Rattle.rules.specs.Call.{named}
 use Rattle.rules.specs.Refusals.{lowest, own}
 use Rattle.places.proofs.Registers.{head-bounds}
-use Rattle.board.specs.Lent.{boardIn}
+use Rattle.places.specs.Places.{boardIn}
 use Rattle.board.proofs.Taking.{head-decoded, accepted-own, taken-refused, taken-accepted, last-small, number-one, number-none}
 use Rattle.board.proofs.entry.take.Statement.{statement}
 use Rattle.board.proofs.entry.take.Tie as tie

@@ -1,0 +1,19 @@
+-- `answers::decide::decide_clear` meets its contract. Assumes nothing.
+use Rattle.answers.proofs.Finding.{refusals}
+use Rattle.answers.proofs.decide.decide_clear.Statement.{statement}
+use Rattle.answers.proofs.decide.decide_clear.Tie as tie
+
+returns : tie.Need-returns
+returns c = search refusals
+
+returns-2 : tie.Need-returns-2
+returns-2 c = search refusals
+
+returns-3 : tie.Need-returns-3
+returns-3 c = search refusals
+
+returns-4 : tie.Need-returns-4
+returns-4 c = search refusals
+
+pub decide-clear-spec : {M : Type 1} → statement M
+decide-clear-spec = tie.close (tie.spec returns returns-2 returns-3 returns-4)

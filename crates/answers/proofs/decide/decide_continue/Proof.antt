@@ -1,0 +1,46 @@
+-- `answers::decide::decide_continue` meets its contract. Assumes nothing.
+use borrow.Author.Needs.{needs}
+use Rattle.answers.proofs.Finding.{refusals}
+use Rattle.answers.proofs.decide.decide_continue.Statement.{statement}
+use Rattle.answers.proofs.decide.decide_continue.Tie as tie
+
+returns : tie.Need-returns
+returns c = search refusals
+
+returns-2 : tie.Need-returns-2
+returns-2 c = search refusals
+
+is-unprotected-requires : tie.Need-is-unprotected-requires
+is-unprotected-requires c κs = search needs
+
+returns-3 : tie.Need-returns-3
+returns-3 c = search refusals
+
+is-occupied-beside-requires : tie.Need-is-occupied-beside-requires
+is-occupied-beside-requires c κs = search needs
+
+returns-4 : tie.Need-returns-4
+returns-4 c = search refusals
+
+is-overlapping-requires : tie.Need-is-overlapping-requires
+is-overlapping-requires c κs = search needs
+
+returns-5 : tie.Need-returns-5
+returns-5 c = search refusals depth 8 fits 5000
+
+returns-6 : tie.Need-returns-6
+returns-6 c = search refusals depth 8 fits 5000
+
+pub decide-continue-spec : {M : Type 1} → statement M
+decide-continue-spec =
+    tie.close
+    (tie.spec
+    returns
+    returns-2
+    is-unprotected-requires
+    returns-3
+    is-occupied-beside-requires
+    returns-4
+    is-overlapping-requires
+    returns-5
+    returns-6)

@@ -1,0 +1,193 @@
+// The refusals of a call that names live authorities, once these are found: the lowest whose condition holds, or 0.
+ghost use mathlib.Core.Path.{_≡_};
+ghost use mathlib.Core.Bool.{not, _||_, _&&_};
+ghost use mathlib.Core.List.{_∷_, []};
+ghost use lib.Dec.{eqb};
+ghost use Rattle.rules.specs.Board.{inForce, workersOn, isTwa};
+ghost use Rattle.rules.specs.Refusals.{_when_, lowest, notToAgree, unprotected, occupied, occupiedBeside, overlaps};
+ghost use Rattle.places.specs.Places.{HeadBounds, boardIn};
+use crate::condition::is_occupied;
+use crate::condition::is_occupied_beside;
+use crate::condition::is_overlapping;
+use crate::condition::is_unprotected;
+use crate::refusal::ALREADY_SO;
+use crate::refusal::ASSURANCE;
+use crate::refusal::OCCUPIED;
+use crate::refusal::OFFICER;
+use crate::refusal::OVERLAP;
+use crate::refusal::SITE;
+use crate::refusal::STAGE;
+use crate::refusal::UNPROTECTED;
+use places::Head;
+use rules::Authority;
+use rules::AuthorityNo;
+
+// 6 and 7 of WITHDRAW, with the authority found.
+pub fn decide_withdraw(a: Authority, officer: u16) -> u16
+    ensures { λ v. ⌜ v ≡ lowest (6 when inForce a ∷ 7 when not (eqb (a .officer) officer) ∷ []) ⌝ }
+{
+    if a.in_force {
+        return STAGE;
+    }
+    if a.officer != officer {
+        return OFFICER;
+    }
+    0
+}
+
+// 6, 7 and 8 of AGREE, with the two found.
+pub fn decide_agree(x: Authority, y: Authority, toa: AuthorityNo, officer: u16) -> u16
+    ensures { λ v. ⌜ v ≡ lowest (6 when notToAgree x y ∷ 7 when not (eqb (x .officer) officer) ∷ 8 when eqb (y .agreed .0) (toa .0) ∷ []) ⌝ }
+{
+    let first = x.kind;
+    let second = y.kind;
+    if !(held::is_toa(first) & x.in_force & held::is_twa(second) & !y.in_force) {
+        return STAGE;
+    }
+    if x.officer != officer {
+        return OFFICER;
+    }
+    if y.agreed.0 == toa.0 {
+        return ALREADY_SO;
+    }
+    0
+}
+
+// 6, 7, 11, 12 and 13 of GRANT, with the authority found.
+pub fn decide_grant(
+    head: Head,
+    gates: &[u16; 192],
+    authorities: &[u64; 256],
+    trains: &[u16; 128],
+    a: Authority,
+    officer: u16,
+) -> u16
+    requires { ⌜ HeadBounds head ⌝ }
+    ensures { λ v. ⌜ v ≡ lowest (6 when inForce a ∷ 7 when not (eqb (a .officer) officer) ∷ 11 when unprotected (boardIn head (now (gates .entry)) (now (authorities .entry)) (now (trains .entry))) a ∷ 12 when occupied (boardIn head (now (gates .entry)) (now (authorities .entry)) (now (trains .entry))) a ∷ 13 when overlaps (boardIn head (now (gates .entry)) (now (authorities .entry)) (now (trains .entry))) 0 a ∷ []) ⌝ }
+{
+    if a.in_force {
+        return STAGE;
+    }
+    if a.officer != officer {
+        return OFFICER;
+    }
+    if is_unprotected(head, gates, authorities, trains, a) {
+        return UNPROTECTED;
+    }
+    if is_occupied(head, gates, authorities, trains, a) {
+        return OCCUPIED;
+    }
+    if is_overlapping(head, gates, authorities, trains, AuthorityNo(0), a) {
+        return OVERLAP;
+    }
+    0
+}
+
+// 6, 7 and 8 of CLEAR, with the authority found.
+pub fn decide_clear(a: Authority, officer: u16) -> u16
+    ensures { λ v. ⌜ v ≡ lowest (6 when not (inForce a) ∷ 7 when not (eqb (a .officer) officer) ∷ 8 when not (workersOn a) ∷ []) ⌝ }
+{
+    if !a.in_force {
+        return STAGE;
+    }
+    if a.officer != officer {
+        return OFFICER;
+    }
+    if !a.workers_on {
+        return ALREADY_SO;
+    }
+    0
+}
+
+// 6, 7, 8 and 12 of REOCCUPY, with the authority found.
+pub fn decide_reoccupy(
+    head: Head,
+    gates: &[u16; 192],
+    authorities: &[u64; 256],
+    trains: &[u16; 128],
+    a: Authority,
+    officer: u16,
+) -> u16
+    requires { ⌜ HeadBounds head ⌝ }
+    ensures { λ v. ⌜ v ≡ lowest (6 when not (inForce a) ∷ 7 when not (eqb (a .officer) officer) ∷ 8 when workersOn a ∷ 12 when (isTwa (a .kind) && occupied (boardIn head (now (gates .entry)) (now (authorities .entry)) (now (trains .entry))) a) ∷ []) ⌝ }
+{
+    if !a.in_force {
+        return STAGE;
+    }
+    if a.officer != officer {
+        return OFFICER;
+    }
+    if a.workers_on {
+        return ALREADY_SO;
+    }
+    let kind = a.kind;
+    if held::is_twa(kind) & is_occupied(head, gates, authorities, trains, a) {
+        return OCCUPIED;
+    }
+    0
+}
+
+// 7 and 8 of HAND OVER, with the authority found.
+pub fn decide_hand_over(a: Authority, out: u16, into: u16) -> u16
+    ensures { λ v. ⌜ v ≡ lowest (7 when not (eqb (a .officer) out) ∷ 8 when eqb out into ∷ []) ⌝ }
+{
+    if a.officer != out {
+        return OFFICER;
+    }
+    if out == into {
+        return ALREADY_SO;
+    }
+    0
+}
+
+// 6, 7, 14 and 15 of FULFIL, with the authority found.
+pub fn decide_fulfil(a: Authority, officer: u16, assurances: u16) -> u16
+    ensures { λ v. ⌜ v ≡ lowest (6 when not (inForce a) ∷ 7 when not (eqb (a .officer) officer) ∷ 14 when workersOn a ∷ 15 when not (eqb assurances 7) ∷ []) ⌝ }
+{
+    if !a.in_force {
+        return STAGE;
+    }
+    if a.officer != officer {
+        return OFFICER;
+    }
+    if a.workers_on {
+        return SITE;
+    }
+    if assurances != 7 {
+        return ASSURANCE;
+    }
+    0
+}
+
+// 6, 7, 11, 12 and 13 of CONTINUE, with the two found.
+pub fn decide_continue(
+    head: Head,
+    gates: &[u16; 192],
+    authorities: &[u64; 256],
+    trains: &[u16; 128],
+    old: AuthorityNo,
+    x: Authority,
+    y: Authority,
+    officer_old: u16,
+    officer_new: u16,
+) -> u16
+    requires { ⌜ HeadBounds head ⌝ }
+    ensures { λ v. ⌜ v ≡ lowest (6 when (not (inForce x) || inForce y) ∷ 7 when (not (eqb (x .officer) «officer_old») || not (eqb (y .officer) «officer_new»)) ∷ 11 when unprotected (boardIn head (now (gates .entry)) (now (authorities .entry)) (now (trains .entry))) y ∷ 12 when occupiedBeside (boardIn head (now (gates .entry)) (now (authorities .entry)) (now (trains .entry))) (old .0) y ∷ 13 when overlaps (boardIn head (now (gates .entry)) (now (authorities .entry)) (now (trains .entry))) (old .0) y ∷ []) ⌝ }
+{
+    if !x.in_force | y.in_force {
+        return STAGE;
+    }
+    if (x.officer != officer_old) | (y.officer != officer_new) {
+        return OFFICER;
+    }
+    if is_unprotected(head, gates, authorities, trains, y) {
+        return UNPROTECTED;
+    }
+    if is_occupied_beside(head, gates, authorities, trains, old, y) {
+        return OCCUPIED;
+    }
+    if is_overlapping(head, gates, authorities, trains, old, y) {
+        return OVERLAP;
+    }
+    0
+}

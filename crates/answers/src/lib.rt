@@ -1,0 +1,11 @@
+// The answer to a call: 0, or the lowest refusal whose condition holds on the board in the lent arrays.
+mod answer;
+mod condition;
+mod decide;
+mod movement;
+pub mod refusal;
+
+pub use answer::answer_of;
+pub use answer::fault_of;
+pub use condition::gate_at;
+pub use condition::is_early;

@@ -1,0 +1,29 @@
+-- What single steps of the code leave. Only the contracts of private functions cite these. Assumes nothing.
+use Prim.Native.Nat.{ℕ}
+use mathlib.Core.List.{List}
+use lib.ListN.{replicate}
+use Rattle.rules.specs.declared.Gate.{Gate}
+use Rattle.rules.specs.declared.Seven.{Seven}
+use Rattle.rules.specs.declared.Register.{Register}
+use Rattle.rules.specs.Board.{Board, noAuthority, noTrain}
+use Rattle.rules.specs.Refusals.{answer}
+
+-- the register of a freshly opened board
+abbrev pub freshWith : ℕ → ℕ → List Gate → Register
+freshWith portions count gates = record {
+  portions = portions;
+  «gate_count» = count;
+  gates = gates;
+  day = 0;
+  time = 0;
+  last = 0;
+  blocks = 0;
+  live = 0;
+  authorities = replicate 32 noAuthority;
+  running = 0;
+  trains = replicate 32 noTrain;
+}
+
+-- the answer where the buffer is long enough
+abbrev pub withRoom : Board → Seven → ℕ
+withRoom b s = answer b s 55
