@@ -12,7 +12,11 @@ use Rattle.rules.specs.declared.Seven.{Seven}
 use Rattle.rules.specs.Board.{Board}
 use Rattle.rules.specs.Refusals.{answer}
 use Rattle.rules.specs.Journal.{journalLine}
+use Rattle.rules.specs.Plan.{openBoard}
 use Rattle.rules.specs.Step.{Made, Answered, after, allotted, trace, final}
+use Rattle.rules.specs.Reckoning.{start, reckoned}
+use Rattle.rules.specs.Claim.{Safe}
+use Rattle.rules.proofs.Safety.{demand-3}
 use Rattle.calls.specs.declared.text.Line.{Line}
 use Rattle.calls.specs.declared.text.Line.the-variants.{Call, Malformed}
 use Rattle.calls.specs.Lines.{lineIn, unlessMalformed, callsIn}
@@ -139,3 +143,9 @@ pub run-trace : (b : Board) (calls : List Seven) → journal b calls ≡ linesOf
 unfolding journal trace allottedIn linesOf
 run-trace b [] = refl
 run-trace b (c ∷ calls) = ap (λ (l : List ℕ). lineOn b c ++ l) (run-trace (after b c 55) calls)
+
+-- THEOREM, demand 3 for a text of calls: on a board opened from any plan, what is reckoned from its calls and their answers, which are
+-- those that the journal shows, is safe
+pub run-safe : (plan text : List ℕ) (n : ℕ)
+    → Safe (openBoard plan .gates) (reckoned (openBoard plan .gates) start (trace (openBoard plan) (map made (callsIn n text))))
+run-safe plan text n = demand-3 plan (map made (callsIn n text))
