@@ -11,15 +11,14 @@ use Rattle.lists.proofs.Prefix.{length-prefix}
 use Rattle.rules.specs.declared.Train.{Train}
 use Rattle.rules.specs.declared.TrainNo.{TrainNo}
 use Rattle.rules.specs.declared.Register.{Register}
-use Rattle.rules.specs.Board.{Board, boardOf, noTrain, onBoard, train}
+use Rattle.rules.specs.Board.{Board, boardOf, isTrain, onBoard, train}
 use Rattle.places.specs.declared.whole.Head.{Head}
 use Rattle.places.specs.Places.{HeadBounds, gatesIn, authoritiesIn, trainsIn}
 use Rattle.places.proofs.Registers.{gates-length, authorities-length, trains-length}
 use Rattle.held.specs.declared.trains.FoundTrain.{FoundTrain}
 use Rattle.held.specs.declared.trains.FoundTrain.the-variants.{Is, Nothing}
-use Rattle.held.specs.declared.trains.TrainQuery.the-variants.{Number}
-use Rattle.held.specs.Trains.{foundTrain, trainPasses}
-use Rattle.held.proofs.TrainLaws.{train-is, train-none, any-number, first-number}
+use Rattle.held.specs.Trains.{foundTrain}
+use Rattle.held.proofs.TrainLaws.{train-is, train-none}
 
 -- ---- the places in use of each array are as many as the head says
 
@@ -43,16 +42,11 @@ pub record There (b : Board) (n : TrainNo) (t : Train) : Type 0 where
   pub on : onBoard b (n .0) ≡ true
   pub is : train b (n .0) ≡ t
 
-module _ (r : Register) (n : TrainNo) {f : FoundTrain} (looked : f ≡ foundTrain (trainPasses (Number n)) (prefix (r .running) (r .trains))) where
+module _ (r : Register) (n : TrainNo) {f : FoundTrain} (looked : f ≡ foundTrain (isTrain (n .0)) (prefix (r .running) (r .trains))) where
   pub train-there : {t : Train} → f ≡ Is t → There (boardOf r) n t
   unfolding boardOf onBoard train
-  train-there {t} e =
-      let ts = boardOf r .trains in
-      let h = train-is (trainPasses (Number n)) ts t (sym looked ∙ e) in
-      record { on = sym (any-number n ts) ∙ h .0; is = sym (first-number n noTrain ts) ∙ h .1 }
+  train-there {t} e = let h = train-is (isTrain (n .0)) (boardOf r .trains) t (sym looked ∙ e) in record { on = h .0; is = h .1 }
 
   pub train-missing : f ≡ Nothing → onBoard (boardOf r) (n .0) ≡ false
   unfolding boardOf onBoard
-  train-missing e =
-      let ts = boardOf r .trains in
-      sym (any-number n ts) ∙ train-none (trainPasses (Number n)) ts (sym looked ∙ e)
+  train-missing e = train-none (isTrain (n .0)) (boardOf r .trains) (sym looked ∙ e)

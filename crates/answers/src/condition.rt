@@ -85,7 +85,7 @@ pub fn is_occupied(
     requires { ⌜ HeadBounds head ⌝ }
     ensures { λ x. ⌜ x ≡ occupied (boardIn head (now (gates .entry)) (now (authorities .entry)) (now (trains .entry))) a ⌝ }
 {
-    held::is_found_train(held::find_train(trains, head.running, TrainQuery::Touching(a.limits)))
+    held::is_met(trains, head.running, TrainQuery::Touching(a.limits))
 }
 
 // 12 of CONTINUE: a train is in the way of the new authority.
@@ -100,7 +100,7 @@ pub fn is_occupied_beside(
     requires { ⌜ HeadBounds head ⌝ }
     ensures { λ x. ⌜ x ≡ occupiedBeside (boardIn head (now (gates .entry)) (now (authorities .entry)) (now (trains .entry))) (old .0) a ⌝ }
 {
-    held::is_found_train(held::find_train(trains, head.running, TrainQuery::InTheWay(old, a)))
+    held::is_met(trains, head.running, TrainQuery::InTheWay(old, a))
 }
 
 // 13: another in force shares a portion, old not counted.

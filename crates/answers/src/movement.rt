@@ -52,7 +52,7 @@ fn is_taken(
     if held::is_found(e) {
         return false;
     }
-    held::is_found_train(held::find_train(trains, head.running, TrainQuery::OtherAt(t, to)))
+    held::is_met(trains, head.running, TrainQuery::OtherAt(t, to))
 }
 
 // 14: W has workers on.
@@ -85,7 +85,7 @@ fn is_not_there(
     requires { ⌜ HeadBounds head ⌝ }
     ensures { λ x. ⌜ x ≡ notThere (boardIn head (now (gates .entry)) (now (authorities .entry)) (now (trains .entry))) (t .0) gate ⌝ }
 {
-    let FoundTrain::Is(x) = held::find_train(trains, head.running, TrainQuery::Number(t)) else {
+    let FoundTrain::Is(x) = held::find_train(trains, head.running, t) else {
         return gate.from != 99;
     };
     if gate.from == 99 {
@@ -214,7 +214,7 @@ pub fn answer_passed(
     requires { ⌜ HeadBounds head ⌝ }
     ensures { λ x. ⌜ x ≡ lowest (passedRefusals (boardIn head (now (gates .entry)) (now (authorities .entry)) (now (trains .entry))) (t .0)) ⌝ }
 {
-    let FoundTrain::Is(x) = held::find_train(trains, head.running, TrainQuery::Number(t)) else {
+    let FoundTrain::Is(x) = held::find_train(trains, head.running, t) else {
         return NO_TRAIN;
     };
     if x.head == x.rear {

@@ -28,14 +28,13 @@ use Rattle.places.specs.declared.whole.Head.{Head}
 use Rattle.places.specs.Places.{authoritiesIn, trainsIn, headOf, registerIn, HeadBounds}
 use Rattle.held.specs.declared.authorities.Found.{Found}
 use Rattle.held.specs.declared.authorities.Found.the-variants as Found
-use Rattle.held.specs.declared.trains.TrainQuery.the-variants.{Number}
 use Rattle.held.specs.declared.trains.FoundTrain.{FoundTrain}
 use Rattle.held.specs.declared.trains.FoundTrain.the-variants as FoundTrain
 use Rattle.held.specs.Authorities.{foundIn}
-use Rattle.held.specs.Trains.{trainPasses, foundTrain}
+use Rattle.held.specs.Trains.{foundTrain}
 use Rattle.held.specs.Places.{Holds}
 use Rattle.held.proofs.AuthorityLaws.{found-none}
-use Rattle.held.proofs.TrainLaws.{train-none, any-number}
+use Rattle.held.proofs.TrainLaws.{train-none}
 use Rattle.places.specs.Places.{boardIn}
 use Rattle.effects.specs.Effects.{EffectPost, HasRoom}
 use Rattle.answers.proofs.Conditions.{authorities-in-use, trains-in-use}
@@ -100,12 +99,10 @@ pub authority-absent : (r : Register) (n : ℕ) {f : Found} → f ≡ foundIn (i
 unfolding boardOf authority
 authority-absent r n e none = first-none _ noAuthority (boardOf r .authorities) (found-none _ _ (sym e ∙ none))
 
-pub train-absent : (r : Register) (n : TrainNo) {f : FoundTrain} → f ≡ foundTrain (trainPasses (Number n)) (prefix (r .running) (r .trains))
+pub train-absent : (r : Register) (n : TrainNo) {f : FoundTrain} → f ≡ foundTrain (isTrain (n .0)) (prefix (r .running) (r .trains))
     → f ≡ FoundTrain.Nothing → train (boardOf r) (n .0) ≡ noTrain
 unfolding boardOf train
-train-absent r n e none =
-    let ts = boardOf r .trains in
-    first-none (isTrain (n .0)) noTrain ts (sym (any-number n ts) ∙ train-none _ ts (sym e ∙ none))
+train-absent r n e none = first-none _ noTrain (boardOf r .trains) (train-none _ _ (sym e ∙ none))
 
 -- ---- the room that an accepted call has
 

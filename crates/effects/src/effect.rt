@@ -11,7 +11,6 @@ use held::Change;
 use held::Found;
 use held::FoundTrain;
 use held::TrainChange;
-use held::TrainQuery;
 use places::Head;
 use rules::Authority;
 use rules::AuthorityNo;
@@ -276,7 +275,7 @@ fn is_head_outside(
     requires { ⌜ HeadBounds head ⌝ }
     ensures { λ x. ⌜ x ≡ isOutside (train (boardIn head (now (gates .entry)) (now (authorities .entry)) (now (trains .entry))) (t .0) .head) ⌝ }
 {
-    let FoundTrain::Is(x) = held::find_train(trains, head.running, TrainQuery::Number(t)) else {
+    let FoundTrain::Is(x) = held::find_train(trains, head.running, t) else {
         return false;
     };
     x.head == 99

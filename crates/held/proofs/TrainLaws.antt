@@ -1,7 +1,7 @@
 -- What the answer of a search over the trains says, and what each query asks, in the rules' words. Assumes nothing.
 use Prim.Native.Nat.{ℕ}
 use mathlib.Core.Path.{_≡_, refl, sym, ap, fun-ext, _∙_}
-use mathlib.Core.Bool.{Bool, true, false, or-false, or-self, and-assoc, and-or-distrib-left, and-or-distrib-right}
+use mathlib.Core.Bool.{Bool, true, false, cond, or-false, and-assoc, and-or-distrib-left, and-or-distrib-right}
 use mathlib.Core.List.{List, [], _∷_}
 use Rattle.lists.specs.Search.{any, first}
 use Rattle.lists.specs.Prefix.{prefix}
@@ -9,13 +9,13 @@ use Rattle.rules.specs.declared.AuthorityNo.{AuthorityNo}
 use Rattle.rules.specs.declared.TrainNo.{TrainNo}
 use Rattle.rules.specs.declared.Authority.{Authority}
 use Rattle.rules.specs.declared.Train.{Train}
-use Rattle.rules.specs.Board.{noTrain, isTrain, touches, touchesPortion}
+use Rattle.rules.specs.Board.{noTrain, touches, touchesPortion}
 use Rattle.rules.specs.Refusals.{inTheWay, isOtherAt}
 use Rattle.held.specs.declared.trains.TrainQuery.{TrainQuery}
-use Rattle.held.specs.declared.trains.TrainQuery.the-variants.{Number, Touching, InTheWay, OtherAt}
+use Rattle.held.specs.declared.trains.TrainQuery.the-variants.{Touching, InTheWay, OtherAt}
 use Rattle.held.specs.declared.trains.FoundTrain.the-variants.{Is, Nothing}
-use Rattle.held.specs.Trains.{endPasses, trainPasses, foundTrain, isTrainIn}
-use Rattle.held.proofs.Loops.{Searches, search-as, search-any}
+use Rattle.held.specs.Trains.{endPasses, trainPasses, foundTrain}
+use Rattle.held.proofs.Loops.{Searches, search-as}
 
 -- ---- the train found, by the searches of the rules
 
@@ -24,36 +24,23 @@ pub train-searches : (test : Train → Bool) → Searches test Is Nothing (found
 unfolding foundTrain
 train-searches test = record { of-none = refl; of-one = λ t ts. refl }
 
--- one is found where any passes
-pub train-any : (test : Train → Bool) (l : List Train) → isTrainIn (foundTrain test l) ≡ any test l
-unfolding isTrainIn
-train-any test l = search-any (train-searches test) isTrainIn refl (λ t. refl) noTrain l
-
 -- the one found is the first that passes
+is-step : (b : Bool) (t x : Train) → cond b (Is t) Nothing ≡ Is x → (b ≡ true) × (t ≡ x)
+is-step true t x e = (refl, cc)
+is-step false t x e = (cc, cc)
+
 pub train-is : (test : Train → Bool) (l : List Train) (t : Train) → foundTrain test l ≡ Is t → (any test l ≡ true) × (first test noTrain l ≡ t)
-unfolding isTrainIn
-train-is test l t e =
-    let some : any test l ≡ true = sym (train-any test l) ∙ ap isTrainIn e in
-    let same : foundTrain test l ≡ Is (first test noTrain l) = search-as (train-searches test) noTrain l ∙ rw some in
-    (some, cc)
+train-is test l t e = is-step (any test l) (first test noTrain l) t (sym (search-as (train-searches test) noTrain l) ∙ e)
 
 -- where none is found, none passes
+none-step : (b : Bool) (t : Train) → cond b (Is t) Nothing ≡ Nothing → b ≡ false
+none-step true t e = cc
+none-step false t e = refl
+
 pub train-none : (test : Train → Bool) (l : List Train) → foundTrain test l ≡ Nothing → any test l ≡ false
-unfolding isTrainIn
-train-none test l e = sym (train-any test l) ∙ ap isTrainIn e
+train-none test l e = none-step (any test l) (first test noTrain l) (sym (search-as (train-searches test) noTrain l) ∙ e)
 
 -- ---- what each query asks
-
--- by number: the train with that number
-number-asks : (n : TrainNo) → trainPasses (Number n) ≡ isTrain (n .0)
-unfolding trainPasses endPasses
-number-asks n = fun-ext (λ t. or-self (isTrain (n .0) t))
-
-pub any-number : (n : TrainNo) (ts : List Train) → any (trainPasses (Number n)) ts ≡ any (isTrain (n .0)) ts
-any-number n ts = rw (number-asks n)
-
-pub first-number : (n : TrainNo) (d : Train) (ts : List Train) → first (trainPasses (Number n)) d ts ≡ first (isTrain (n .0)) d ts
-first-number n d ts = rw (number-asks n)
 
 -- a train that touches the set
 pub any-touching : (set : ℕ) (ts : List Train) → any (trainPasses (Touching set)) ts ≡ any (touches set) ts

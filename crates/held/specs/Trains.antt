@@ -1,6 +1,6 @@
 -- What each search over the trains looks for and answers, and what each change makes of one. Assumes nothing.
 use Prim.Native.Nat.{ℕ}
-use mathlib.Core.Bool.{Bool, true, false, cond, not, _&&_, _||_}
+use mathlib.Core.Bool.{Bool, cond, not, _&&_, _||_}
 use mathlib.Core.List.{List, [], _∷_}
 use lib.Dec.{eqb}
 use Rattle.portions.specs.Sets.{has}
@@ -9,7 +9,7 @@ use Rattle.rules.specs.Board.{isTrain, isOutside, isTwa}
 use Rattle.rules.specs.Call.{authorityOf}
 use Rattle.rules.specs.Effects.{withHead, withRearIn, withAuthority, isWith, continuedWith}
 use Rattle.held.specs.declared.trains.TrainQuery.{TrainQuery}
-use Rattle.held.specs.declared.trains.TrainQuery.the-variants.{Number, Touching, InTheWay, OtherAt}
+use Rattle.held.specs.declared.trains.TrainQuery.the-variants.{Touching, InTheWay, OtherAt}
 use Rattle.held.specs.declared.trains.FoundTrain.{FoundTrain}
 use Rattle.held.specs.declared.trains.FoundTrain.the-variants.{Is, Nothing}
 use Rattle.held.specs.declared.trains.TrainChange.{TrainChange}
@@ -17,7 +17,6 @@ use Rattle.held.specs.declared.trains.TrainChange.the-variants.{Head, Re
 
 -- the train is what the query looks for, by its head or its rear
 unfoldable pub endPasses : TrainQuery → Train → ℕ → Bool
-endPasses (Number n) t end = isTrain (n .0) t
 endPasses (Touching set) t end = has end set
 endPasses (InTheWay old a) t end = has end (a .limits) && (isTwa (a .kind) || not (eqb (t .with .0) (old .0)) || not (has (t .head) (a .limits)))
 endPasses (OtherAt n p) t end = not (isTrain (n .0) t) && not (isOutside p) && eqb end p
@@ -29,10 +28,6 @@ trainPasses q t = endPasses q t (t .head) || endPasses q t (t .rear)
 unfoldable pub foundTrain : (Train → Bool) → List Train → FoundTrain
 foundTrain test [] = Nothing
 foundTrain test (t ∷ ts) = cond (test t) (Is t) (foundTrain test ts)
-
-unfoldable pub isTrainIn : FoundTrain → Bool
-isTrainIn (Is t) = true
-isTrainIn Nothing = false
 
 -- the trains that a change is for, and what it makes of each
 unfoldable pub trainTest : TrainChange → Train → Bool

@@ -21,5 +21,5 @@ pub use trains::TrainQuery;
 pub use trains::add_train;
 pub use trains::change_trains;
 pub use trains::find_train;
-pub use trains::is_found_train;
+pub use trains::is_met;
 pub use trains::remove_train;

@@ -2,11 +2,11 @@
 ghost use mathlib.Core.Path.{_≡_};
 ghost use mathlib.Core.List.{_++_, _∷_, []};
 ghost use Prim.Native.Nat.{_+_, _≤_, _<_};
-ghost use Rattle.lists.specs.Search.{keep, change};
+ghost use Rattle.lists.specs.Search.{any, keep, change};
 ghost use Rattle.lists.specs.Prefix.{prefix};
-ghost use Rattle.rules.specs.Board.{isNotTrain};
+ghost use Rattle.rules.specs.Board.{isTrain, isNotTrain};
 ghost use Rattle.places.specs.Places.{trainsIn};
-ghost use Rattle.held.specs.Trains.{endPasses, trainPasses, foundTrain, isTrainIn, trainTest, trainChange};
+ghost use Rattle.held.specs.Trains.{endPasses, trainPasses, foundTrain, trainTest, trainChange};
 ghost use Rattle.held.specs.Places.{Holds};
 use crate::authorities::is_twa;
 use places::put_train;
@@ -18,8 +18,6 @@ use rules::TrainNo;
 
 // What is looked for among the trains, at their head or their rear.
 pub enum TrainQuery {
-    // the one with that number
-    Number(TrainNo),
     // one that touches the set of portions
     Touching(u64),
     // one in the way of a CONTINUE from the first authority to the second (refusal 12)
@@ -50,7 +48,6 @@ fn passes_at(q: TrainQuery, t: Train, end: u16) -> bool
     ensures { λ r. ⌜ r ≡ endPasses q t end ⌝ }
 {
     match q {
-        TrainQuery::Number(n) => t.number.0 == n.0,
         TrainQuery::Touching(set) => portions::has(set, end),
         TrainQuery::InTheWay(old, a) => is_in_the_way(old, a, t, end),
         TrainQuery::OtherAt(n, p) => (t.number.0 != n.0) & (p != 99) & (end == p),
@@ -66,12 +63,30 @@ fn is_in_the_way(old: AuthorityNo, a: Authority, t: Train, end: u16) -> bool
         & (is_twa(kind) | (t.with.0 != old.0) | !portions::has(a.limits, t.head))
 }
 
-// The first train that is what is looked for: the search goes over the trains and their head and rear, and is left when one is found.
-pub fn find_train(trains: &[u16; 128], running: usize, q: TrainQuery) -> FoundTrain
+// The train with that number; the search is left when it is found.
+pub fn find_train(trains: &[u16; 128], running: usize, n: TrainNo) -> FoundTrain
     requires { ⌜ running ≤ 32 ⌝ }
-    ensures { λ f. ⌜ f ≡ foundTrain (trainPasses q) (prefix running (trainsIn (now (trains .entry)))) ⌝ }
+    ensures { λ f. ⌜ f ≡ foundTrain (isTrain (n .0)) (prefix running (trainsIn (now (trains .entry)))) ⌝ }
 {
     let mut found = FoundTrain::Nothing;
+    let mut i: usize = 0;
+    'search: while i < running {
+        let t = train_at(trains, i);
+        if t.number.0 == n.0 {
+            found = FoundTrain::Is(t);
+            break 'search;
+        }
+        i += 1;
+    }
+    found
+}
+
+// A train is what is looked for: the search goes over the trains and their head and rear, and is left when one is found.
+pub fn is_met(trains: &[u16; 128], running: usize, q: TrainQuery) -> bool
+    requires { ⌜ running ≤ 32 ⌝ }
+    ensures { λ r. ⌜ r ≡ any (trainPasses q) (prefix running (trainsIn (now (trains .entry)))) ⌝ }
+{
+    let mut met = false;
     let mut i: usize = 0;
     'search: while i < running {
         let t = train_at(trains, i);
@@ -79,23 +94,14 @@ pub fn find_train(trains: &[u16; 128], running: usize, q: TrainQuery) -> FoundTr
         let mut k: usize = 0;
         while k < 2 {
             if passes_at(q, t, ends[k]) {
-                found = FoundTrain::Is(t);
+                met = true;
                 break 'search;
             }
             k += 1;
         }
         i += 1;
     }
-    found
-}
-
-pub fn is_found_train(f: FoundTrain) -> bool
-    ensures { λ r. ⌜ r ≡ isTrainIn f ⌝ }
-{
-    match f {
-        FoundTrain::Is(_) => true,
-        FoundTrain::Nothing => false,
-    }
+    met
 }
 
 // The train is one that changes.

@@ -2,19 +2,16 @@
 use borrow.Author.Needs.{needs}
 use Rattle.rules.specs.Board.{boardOf}
 use Rattle.rules.specs.Refusals.{occupiedBeside}
-use Rattle.held.proofs.TrainLaws.{train-any, any-in-the-way}
+use Rattle.held.proofs.TrainLaws.{any-in-the-way}
 use Rattle.answers.proofs.condition.is_occupied_beside.Statement.{statement}
 use Rattle.answers.proofs.condition.is_occupied_beside.Tie as tie
 
-find-train-requires : tie.Need-find-train-requires
-find-train-requires c κs = search needs
-
-is-found-train-requires : tie.Need-is-found-train-requires
-is-found-train-requires c κs = search needs
+is-met-requires : tie.Need-is-met-requires
+is-met-requires c κs = search needs
 
 returns : tie.Need-returns
 unfolding occupiedBeside boardOf
-returns c = rw (c .is-found-train .ensures, c .before .find-train .ensures, train-any, any-in-the-way)
+returns c = rw (c .is-met .ensures, any-in-the-way)
 
 pub is-occupied-beside-spec : {M : Type 1} → statement M
-is-occupied-beside-spec = tie.close (tie.spec find-train-requires is-found-train-requires returns)
+is-occupied-beside-spec = tie.close (tie.spec is-met-requires returns)

@@ -3,7 +3,7 @@ use borrow.Author.Needs.{needs}
 use Rattle.rules.specs.Board.{boardOf}
 use Rattle.rules.specs.Refusals.{anyE, taken}
 use Rattle.held.proofs.AuthorityLaws.{found-any}
-use Rattle.held.proofs.TrainLaws.{train-any, any-other-at}
+use Rattle.held.proofs.TrainLaws.{any-other-at}
 use Rattle.answers.proofs.movement.is_taken.Statement.{statement}
 use Rattle.answers.proofs.movement.is_taken.Tie as tie
 
@@ -14,27 +14,22 @@ returns : tie.Need-returns
 unfolding taken anyE boardOf
 returns c = rw (← found-any, ← c .before .before .pre .1, ← c .before .is-found .ensures, c .if1 .taken)
 
-find-train-requires : tie.Need-find-train-requires
-find-train-requires c κs = search needs
-
-is-found-train-requires : tie.Need-is-found-train-requires
-is-found-train-requires c κs = search needs
+is-met-requires : tie.Need-is-met-requires
+is-met-requires c κs = search needs
 
 returns-2 : tie.Need-returns-2
 unfolding taken anyE boardOf
 returns-2 c =
     rw (
       ← found-any,
-      ← c .before .before .before .before .pre .1,
-      ← c .before .before .before .is-found .ensures,
-      c .before .before .if1 .left,
-      c .is-found-train .ensures,
-      c .before .find-train .ensures,
-      train-any,
+      ← c .before .before .before .pre .1,
+      ← c .before .before .is-found .ensures,
+      c .before .if1 .left,
+      c .is-met .ensures,
       any-other-at,
     )
 
 pub is-taken-spec : {M : Type 1} → statement M
 is-taken-spec =
     tie.close
-    (tie.spec is-found-requires returns find-train-requires is-found-train-requires returns-2)
+    (tie.spec is-found-requires returns is-met-requires returns-2)

@@ -1,109 +1,62 @@
--- `held::trains::find_train` meets its contract: of the whole list is found what is found of the trains from i on, and of the train at i
--- it is asked what is asked of its ends from k on. Assumes nothing.
-use Prim.Native.Nat.{_≤_, _-_}
+-- `held::trains::find_train` meets its contract. The invariant: none before i has the number. Assumes nothing.
+use Prim.Native.Nat.{_-_}
 use native.Mathlib.Omega.{arith}
 use mathlib.Core.Path.{_≡_, refl, sym, _∙_}
-use lib.ListN.{drop}
-use Rattle.lists.specs.Prefix.{prefix}
-use Rattle.lists.specs.Search.{any}
-use Rattle.lists.proofs.Prefix.{any-hit, any-miss, any-end}
-use Rattle.rules.specs.Board.{noTrain}
+use borrow.Author.Tests.{eq-eqb, ne-eqb}
+use Rattle.rules.specs.Board.{isTrain, noTrain}
 use Rattle.places.specs.Places.{trainsIn}
 use Rattle.places.proofs.Registers.{trains-length}
-use Rattle.held.specs.Trains.{endPasses, trainPasses, foundTrain}
+use Rattle.held.specs.Trains.{foundTrain}
 use Rattle.held.specs.declared.trains.FoundTrain.the-variants.{Nothing}
 use Rattle.held.proofs.Loops.{Searching, search-start, search-hit, search-miss, search-end}
-use Rattle.held.proofs.TrainLaws.{train-searches, either-end}
+use Rattle.held.proofs.TrainLaws.{train-searches}
 use Rattle.held.proofs.trains.find_train.Statement.{statement}
 use Rattle.held.proofs.trains.find_train.Tie as tie
 
-abbrev Inv-loop : tie.InvT-loop
-Inv-loop trains running q found₀ i t ends k₀ found k =
-    (k ≤ 2) × (found ≡ Nothing) × (trainPasses q t ≡ any (endPasses q t) (drop k (prefix 2 ends)))
-
-abbrev μ-loop : tie.MeasureT-loop
-μ-loop trains running q found₀ i t ends k₀ found k = 2 - k
-
 abbrev Inv-search : tie.InvT-search
-Inv-search trains running q found₀ i₀ found i =
-    (found ≡ Nothing) × Searching (foundTrain (trainPasses q)) (trainsIn trains) running i
+Inv-search trains running n found₀ i₀ found i =
+    (found ≡ Nothing) × Searching (foundTrain (isTrain (n .0))) (trainsIn trains) running i
 
 abbrev μ-search : tie.MeasureT-search
-μ-search trains running q found₀ i₀ found i = running - i
+μ-search trains running n found₀ i₀ found i = running - i
 
-search-holds : tie.Need-search-holds Inv-loop μ-loop Inv-search μ-search
+search-holds : tie.Need-search-holds Inv-search μ-search
 search-holds c = (refl, search-start (c .pre) (trains-length _))
 
-train-at-requires : tie.Need-train-at-requires Inv-loop μ-loop Inv-search μ-search
+train-at-requires : tie.Need-train-at-requires Inv-search μ-search
 train-at-requires c κs = omega arith
 
-loop-holds : tie.Need-loop-holds Inv-loop μ-loop Inv-search μ-search
-loop-holds c = (omega arith, c .before .before .search .inv .0, either-end _ _)
-
-mul-passes-at : tie.Need-mul-passes-at Inv-loop μ-loop Inv-search μ-search
-mul-passes-at c = omega arith
-
-array-read-passes-at : tie.Need-array-read-passes-at Inv-loop μ-loop Inv-search μ-search
-array-read-passes-at c = omega arith
-
-passes-at-requires : tie.Need-passes-at-requires Inv-loop μ-loop Inv-search μ-search
-passes-at-requires c κs = tt
-
-add-k : tie.Need-add-k Inv-loop μ-loop Inv-search μ-search
-add-k c = omega arith
-
-loop-less : tie.Need-loop-less Inv-loop μ-loop Inv-search μ-search
-loop-less c = omega arith
-
-loop-again : tie.Need-loop-again Inv-loop μ-loop Inv-search μ-search
-loop-again c =
-    let s = c .before .before .before .loop in
-    let miss = sym (c .before .passes-at .ensures) ∙ c .if1 .left in
-    (omega arith, s .inv .1, s .inv .2 ∙ any-miss _ 2 (s .k) 0 (omega arith) (omega arith) _ miss)
-
-add-i : tie.Need-add-i Inv-loop μ-loop Inv-search μ-search
+add-i : tie.Need-add-i Inv-search μ-search
 add-i c = omega arith
 
-search-less : tie.Need-search-less Inv-loop μ-loop Inv-search μ-search
+search-less : tie.Need-search-less Inv-search μ-search
 search-less c = omega arith
 
-search-again : tie.Need-search-again Inv-loop μ-loop Inv-search μ-search
+search-again : tie.Need-search-again Inv-search μ-search
 search-again c =
-    let s = c .before .before .before .before in
-    let l = c .before .loop in
-    let none = l .inv .2 ∙ any-end _ 2 (l .k) _ (omega arith) in
-    (l .inv .1, search-miss (train-searches _) (s .search .inv .1) _ (omega arith) (c .before .before .train-at .ensures) none)
+    let t = c .before .before .before in
+    let s = t .before .before .search .inv in
+    (s .0, search-miss (train-searches _) (s .1) _ (omega arith) (t .train-at .ensures) (ne-eqb _ _ (c .if1 .left)))
 
-returns : tie.Need-returns Inv-loop μ-loop Inv-search μ-search
+returns : tie.Need-returns Inv-search μ-search
 returns c =
-    let s = c .before .search in
-    s .inv .0 ∙ sym (search-end (train-searches _) (s .inv .1) noTrain (omega arith))
+    let s = c .before .search .inv in
+    s .0 ∙ sym (search-end (train-searches _) (s .1) noTrain (omega arith))
 
-returns-2 : tie.Need-returns-2 Inv-loop μ-loop Inv-search μ-search
+returns-2 : tie.Need-returns-2 Inv-search μ-search
 returns-2 c =
-    let l = c .before .before .before in
-    let s = l .before .before .before in
-    let test = sym (c .before .passes-at .ensures) ∙ c .if1 .taken in
-    let hit = l .loop .inv .2 ∙ any-hit _ 2 (l .loop .k) 0 (omega arith) (omega arith) _ test in
-    sym (search-hit (train-searches _) (s .search .inv .1) _ (omega arith) (l .before .train-at .ensures) hit)
+    let t = c .before .before .before in
+    let s = t .before .before .search .inv in
+    sym (search-hit (train-searches _) (s .1) _ (omega arith) (t .train-at .ensures) (eq-eqb _ _ (c .if1 .taken)))
 
 pub find-train-spec : {M : Type 1} → statement M
 find-train-spec =
     tie.close
     (tie.spec
-    Inv-loop
-    μ-loop
     Inv-search
     μ-search
     search-holds
     train-at-requires
-    loop-holds
-    mul-passes-at
-    array-read-passes-at
-    passes-at-requires
-    add-k
-    loop-less
-    loop-again
     add-i
     search-less
     search-again
