@@ -23,8 +23,7 @@ use Rattle.rules.proofs.Accepted.{Ranges, in-ranges}
 use Rattle.rules.proofs.Answers.{refused-same, refused-none, short-answer, short-line, long-line}
 use Rattle.rules.proofs.Once.{once-after}
 use Rattle.places.specs.declared.whole.Head.{Head}
-use Rattle.places.specs.Places.{gatesIn, authoritiesIn, trainsIn, headOf, registerIn, HeadBounds, boardIn}
-use Rattle.places.proofs.Registers.{spread-register}
+use Rattle.places.specs.Places.{HeadBounds, boardIn}
 use Rattle.board.specs.Lent.{TakePost}
 use Rattle.answers.specs.Faults.{faultOf}
 use Rattle.board.specs.Steps.{withRoom}
@@ -155,10 +154,6 @@ taken-accepted r s c out n k e z p m =
     accepted-after b s d z e = unfold after in rw (eq-eqb (answer b s 55) 0 z, e)
 
 -- ---- the same, of a register that is spread over a head and arrays, and read back from them
-
-pub spread : {h : Head} {r : Register} (g a t : List ℕ) → h ≡ headOf r → gatesIn g ≡ r .gates → authoritiesIn a ≡ r .authorities → trainsIn t ≡ r .trains
-    → registerIn h g a t ≡ r
-spread {r = r} g a t e gates authorities trains = rw e (spread-register r g a t gates authorities trains)
 
 module _ {r r₀ r′ : Register} {s : Seven} {given number : ℕ} (is : r₀ ≡ r) (p : TakePost r₀ s r′ given number) where
   -- of a refused call the register handed in is as good as the one left

@@ -22,9 +22,9 @@ unfolding trainsIn
 trains-length l = length-places trainFrom 4 32 l
 
 -- a register put into a head and three arrays
-pub spread-register : (r : Register) (g a t : List ℕ) → gatesIn g ≡ r .gates → authoritiesIn a ≡ r .authorities → trainsIn t ≡ r .trains
-    → registerIn (headOf r) g a t ≡ r
-spread-register r g a t eg ea et = rw (eg, ea, et)
+pub spread : {h : Head} {r : Register} (g a t : List ℕ) → h ≡ headOf r → gatesIn g ≡ r .gates → authoritiesIn a ≡ r .authorities → trainsIn t ≡ r .trains
+    → registerIn h g a t ≡ r
+spread g a t e eg ea et = rw (e, eg, ea, et)
 
 -- its bounds are the head's
 module _ (h : Head) (g a t : List ℕ) where

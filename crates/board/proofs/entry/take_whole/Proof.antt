@@ -3,7 +3,8 @@ use borrow.Author.Needs.{needs}
 use mathlib.Core.Path.{_≡_, sym, subst}
 use Rattle.rules.specs.Step.{Kept}
 use Rattle.places.specs.Places.{registerIn}
-use Rattle.board.proofs.Taking.{spread, spread-refused, spread-taken}
+use Rattle.places.proofs.Registers.{spread}
+use Rattle.board.proofs.Taking.{spread-refused, spread-taken}
 use Rattle.board.proofs.entry.take_whole.Statement.{statement}
 use Rattle.board.proofs.entry.take_whole.Tie as tie
 

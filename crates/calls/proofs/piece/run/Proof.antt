@@ -1,13 +1,12 @@
 -- `calls::piece::run` meets its contract: the arrays hold the register that was handed over, and the register returned is what they hold
 -- after the run. Assumes nothing.
 use Prim.Native.Nat.{ℕ}
-use mathlib.Core.Path.{_≡_, sym, ap, subst, _∙_}
+use mathlib.Core.Path.{_≡_, sym, subst}
 use mathlib.Core.List.{List}
 use borrow.Author.Needs.{needs}
 use Rattle.rules.specs.Step.{Kept}
-use Rattle.places.specs.declared.whole.Head.{Head}
 use Rattle.places.specs.Places.{registerIn}
-use Rattle.places.proofs.Registers.{spread-register}
+use Rattle.places.proofs.Registers.{spread}
 use Rattle.calls.proofs.piece.run.Statement.{statement}
 use Rattle.calls.proofs.piece.run.Tie as tie
 
@@ -24,10 +23,9 @@ trains h = h .before .write-trains .last .1 .0
 abbrev start : tie.After-head-of → tie.Start
 start h = h .before .before .before .before .before .before .before .before .before
 
-spread : (h : tie.After-head-of) → registerIn (h .head-of .result) (gates h) (authorities h) (trains h) ≡ start h .args .register
-spread h =
-    ap (λ (x : Head). registerIn x (gates h) (authorities h) (trains h)) (h .head-of .ensures)
-    ∙ spread-register _ (gates h) (authorities h) (trains h) (h .before .before .before .before .before .write-gates .ensures)
+is-spread : (h : tie.After-head-of) → registerIn (h .head-of .result) (gates h) (authorities h) (trains h) ≡ start h .args .register
+is-spread h =
+    spread (gates h) (authorities h) (trains h) (h .head-of .ensures) (h .before .before .before .before .before .write-gates .ensures)
     (h .before .before .before .write-authorities .ensures) (h .before .write-trains .ensures)
 
 write-gates-requires : tie.Need-write-gates-requires
@@ -43,7 +41,7 @@ head-of-requires : tie.Need-head-of-requires
 head-of-requires c κs = search needs
 
 run-lines-requires : tie.Need-run-lines-requires
-run-lines-requires c κs = let h = c .before .before .before .before in subst Kept (sym (spread h)) (start h .pre)
+run-lines-requires c κs = let h = c .before .before .before .before in subst Kept (sym (is-spread h)) (start h .pre)
 
 read-register-requires : tie.Need-read-register-requires
 read-register-requires c κs = search needs
@@ -55,7 +53,7 @@ returns : tie.Need-returns
 returns c =
     let r = c .before .before .before .before .before .before .before in
     let h = r .before .before .before .before .before in
-    rw (c .read-register .ensures, ← spread h) (r .run-lines .ensures)
+    rw (c .read-register .ensures, ← is-spread h) (r .run-lines .ensures)
 
 pub run-spec : {M : Type 1} → statement M
 run-spec =
