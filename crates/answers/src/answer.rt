@@ -23,6 +23,7 @@ use crate::refusal::NO_FACILITY;
 use crate::refusal::NO_SUCH_CALL;
 use crate::refusal::NOT_LIVE;
 use crate::refusal::STILL_NEEDED;
+use crate::terms::answer_term;
 use held::Found;
 use places::Head;
 use rules::AuthorityNo;
@@ -128,16 +129,17 @@ fn answer_grant(
     gates: &[u16; 192],
     authorities: &[u64; 256],
     trains: &[u16; 128],
+    s: Seven,
     n: AuthorityNo,
     officer: u16,
 ) -> u16
     requires { ⌜ HeadBounds head ⌝ }
-    ensures { λ x. ⌜ x ≡ lowest (grantRefusals (boardIn head (now (gates .entry)) (now (authorities .entry)) (now (trains .entry))) (n .0) officer) ⌝ }
+    ensures { λ x. ⌜ x ≡ lowest (grantRefusals (boardIn head (now (gates .entry)) (now (authorities .entry)) (now (trains .entry))) s (n .0) officer) ⌝ }
 {
     let Found::Is(a) = held::find(authorities, head.live, n) else {
         return NOT_LIVE;
     };
-    decide_grant(head, gates, authorities, trains, a, officer)
+    decide_grant(head, gates, authorities, trains, s, a, officer)
 }
 
 fn answer_clear(
@@ -215,13 +217,14 @@ fn answer_continue(
     gates: &[u16; 192],
     authorities: &[u64; 256],
     trains: &[u16; 128],
+    s: Seven,
     old: AuthorityNo,
     new: AuthorityNo,
     officer_old: u16,
     officer_new: u16,
 ) -> u16
     requires { ⌜ HeadBounds head ⌝ }
-    ensures { λ x. ⌜ x ≡ lowest (continueRefusals (boardIn head (now (gates .entry)) (now (authorities .entry)) (now (trains .entry))) (old .0) (new .0) «officer_old» «officer_new») ⌝ }
+    ensures { λ x. ⌜ x ≡ lowest (continueRefusals (boardIn head (now (gates .entry)) (now (authorities .entry)) (now (trains .entry))) s (old .0) (new .0) «officer_old» «officer_new») ⌝ }
 {
     let Found::Is(x) = held::find(authorities, head.live, old) else {
         return NOT_LIVE;
@@ -234,6 +237,7 @@ fn answer_continue(
         gates,
         authorities,
         trains,
+        s,
         old,
         x,
         y,
@@ -298,6 +302,7 @@ pub fn answer_of(
             gates,
             authorities,
             trains,
+            s,
             authority,
             officer,
         ),
@@ -345,6 +350,7 @@ pub fn answer_of(
             gates,
             authorities,
             trains,
+            s,
             old,
             new,
             officer_old,
@@ -366,5 +372,11 @@ pub fn answer_of(
             officer,
         ),
         Call::Passed { train } => answer_passed(head, gates, authorities, trains, train),
+        Call::Term {
+            authority,
+            day,
+            time,
+            length: _,
+        } => answer_term(head, gates, authorities, trains, s, authority, day, time),
     }
 }

@@ -4,7 +4,7 @@ ghost use mathlib.Core.Bool.{not, _||_, _&&_};
 ghost use mathlib.Core.List.{_∷_, []};
 ghost use lib.Dec.{eqb};
 ghost use Rattle.rules.specs.Board.{inForce, workersOn, isTwa};
-ghost use Rattle.rules.specs.Refusals.{_when_, lowest, notToAgree, unprotected, occupied, occupiedBeside, overlaps};
+ghost use Rattle.rules.specs.Refusals.{_when_, lowest, notToAgree, unprotected, occupied, occupiedBeside, overlaps, outsideTerm};
 ghost use Rattle.places.specs.Places.{HeadBounds, boardIn};
 use crate::condition::is_occupied;
 use crate::condition::is_occupied_beside;
@@ -17,10 +17,13 @@ use crate::refusal::OFFICER;
 use crate::refusal::OVERLAP;
 use crate::refusal::SITE;
 use crate::refusal::STAGE;
+use crate::refusal::TERM;
 use crate::refusal::UNPROTECTED;
+use crate::terms::is_outside_term;
 use places::Head;
 use rules::Authority;
 use rules::AuthorityNo;
+use rules::Seven;
 
 // 6 and 7 of WITHDRAW, with the authority found.
 pub fn decide_withdraw(a: Authority, officer: u16) -> u16
@@ -53,17 +56,18 @@ pub fn decide_agree(x: Authority, y: Authority, toa: AuthorityNo, officer: u16) 
     0
 }
 
-// 6, 7, 11, 12 and 13 of GRANT, with the authority found.
+// 6, 7, 11, 12, 13 and 22 of GRANT, with the authority found.
 pub fn decide_grant(
     head: Head,
     gates: &[u16; 192],
     authorities: &[u64; 256],
     trains: &[u16; 128],
+    s: Seven,
     a: Authority,
     officer: u16,
 ) -> u16
     requires { ⌜ HeadBounds head ⌝ }
-    ensures { λ v. ⌜ v ≡ lowest (6 when inForce a ∷ 7 when not (eqb (a .officer) officer) ∷ 11 when unprotected (boardIn head (now (gates .entry)) (now (authorities .entry)) (now (trains .entry))) a ∷ 12 when occupied (boardIn head (now (gates .entry)) (now (authorities .entry)) (now (trains .entry))) a ∷ 13 when overlaps (boardIn head (now (gates .entry)) (now (authorities .entry)) (now (trains .entry))) 0 a ∷ []) ⌝ }
+    ensures { λ v. ⌜ v ≡ lowest (6 when inForce a ∷ 7 when not (eqb (a .officer) officer) ∷ 11 when unprotected (boardIn head (now (gates .entry)) (now (authorities .entry)) (now (trains .entry))) a ∷ 12 when occupied (boardIn head (now (gates .entry)) (now (authorities .entry)) (now (trains .entry))) a ∷ 13 when overlaps (boardIn head (now (gates .entry)) (now (authorities .entry)) (now (trains .entry))) 0 a ∷ 22 when outsideTerm s a ∷ []) ⌝ }
 {
     if a.in_force {
         return STAGE;
@@ -79,6 +83,9 @@ pub fn decide_grant(
     }
     if is_overlapping(head, gates, authorities, trains, AuthorityNo(0), a) {
         return OVERLAP;
+    }
+    if is_outside_term(s, a) {
+        return TERM;
     }
     0
 }
@@ -159,12 +166,13 @@ pub fn decide_fulfil(a: Authority, officer: u16, assurances: u16) -> u16
     0
 }
 
-// 6, 7, 11, 12 and 13 of CONTINUE, with the two found.
+// 6, 7, 11, 12, 13 and 22 of CONTINUE, with the two found.
 pub fn decide_continue(
     head: Head,
     gates: &[u16; 192],
     authorities: &[u64; 256],
     trains: &[u16; 128],
+    s: Seven,
     old: AuthorityNo,
     x: Authority,
     y: Authority,
@@ -172,7 +180,7 @@ pub fn decide_continue(
     officer_new: u16,
 ) -> u16
     requires { ⌜ HeadBounds head ⌝ }
-    ensures { λ v. ⌜ v ≡ lowest (6 when (not (inForce x) || inForce y) ∷ 7 when (not (eqb (x .officer) «officer_old») || not (eqb (y .officer) «officer_new»)) ∷ 11 when unprotected (boardIn head (now (gates .entry)) (now (authorities .entry)) (now (trains .entry))) y ∷ 12 when occupiedBeside (boardIn head (now (gates .entry)) (now (authorities .entry)) (now (trains .entry))) (old .0) y ∷ 13 when overlaps (boardIn head (now (gates .entry)) (now (authorities .entry)) (now (trains .entry))) (old .0) y ∷ []) ⌝ }
+    ensures { λ v. ⌜ v ≡ lowest (6 when (not (inForce x) || inForce y) ∷ 7 when (not (eqb (x .officer) «officer_old») || not (eqb (y .officer) «officer_new»)) ∷ 11 when unprotected (boardIn head (now (gates .entry)) (now (authorities .entry)) (now (trains .entry))) y ∷ 12 when occupiedBeside (boardIn head (now (gates .entry)) (now (authorities .entry)) (now (trains .entry))) (old .0) y ∷ 13 when overlaps (boardIn head (now (gates .entry)) (now (authorities .entry)) (now (trains .entry))) (old .0) y ∷ 22 when outsideTerm s y ∷ []) ⌝ }
 {
     if !x.in_force | y.in_force {
         return STAGE;
@@ -188,6 +196,9 @@ pub fn decide_continue(
     }
     if is_overlapping(head, gates, authorities, trains, old, y) {
         return OVERLAP;
+    }
+    if is_outside_term(s, y) {
+        return TERM;
     }
     0
 }

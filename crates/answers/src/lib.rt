@@ -4,8 +4,10 @@ mod condition;
 mod decide;
 mod movement;
 pub mod refusal;
+mod terms;
 
 pub use answer::answer_of;
 pub use answer::fault_of;
 pub use condition::gate_at;
 pub use condition::is_early;
+pub use terms::minute_of;

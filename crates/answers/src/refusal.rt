@@ -1,4 +1,4 @@
-// The refusals by document 01's words.
+// The refusals by document 01's words; 21 and 22 are 02's order 1.
 pub const SHORT_LINE: u16 = 1;
 
 pub const NO_SUCH_CALL: u16 = 2;
@@ -38,3 +38,7 @@ pub const BLOCKED: u16 = 18;
 pub const NOT_PILOTED: u16 = 19;
 
 pub const PLAN: u16 = 20;
+
+pub const NOTICE: u16 = 21;
+
+pub const TERM: u16 = 22;

@@ -42,6 +42,8 @@ fn fresh(portions: u16, gate_count: usize, gates: [Gate; 64]) -> Register
         in_force: false,
         workers_on: false,
         agreed: none,
+        start: 0,
+        length: 0,
     };
     let no_train = Train {
         number: TrainNo(0),

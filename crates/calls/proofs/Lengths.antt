@@ -14,7 +14,7 @@ use Rattle.rules.specs.declared.Seven.{Seven}
 use Rattle.rules.specs.Board.{Board}
 use Rattle.rules.specs.Refusals.{answer}
 use Rattle.rules.specs.Step.{Once, after, allotted}
-use Rattle.rules.proofs.Answers.{cond-most, answer-19}
+use Rattle.rules.proofs.Answers.{cond-most, answer-most}
 use Rattle.rules.proofs.Once.{once-after}
 use Rattle.rules.proofs.Lines.{Small, line-55}
 use Rattle.calls.specs.declared.text.Line.{Line}
@@ -35,7 +35,7 @@ unfolding allotted
 line-on b c o (p, (q, (r, (s, (t, (u, (v, w))))))) =
     let few : allotted b c 55 ≤ 10000 =
     cond-most (eqb (answer b c 55) 0 && eqb (c .call) 1) (suc (b .last)) 0 10000 (omega (arith, o .last)) (omega arith) in
-    line-55 c (answer b c 55) (allotted b c 55) (p, (q, (r, (s, (t, (u, (v, (omega (arith, answer-19 b c 55), (omega arith, w)))))))))
+    line-55 c (answer b c 55) (allotted b c 55) (p, (q, (r, (s, (t, (u, (v, (omega (arith, answer-most b c 55), (omega arith, w)))))))))
 
 -- THEOREM: 55 bytes for each call
 pub journal-length : (b : Board) (calls : List Seven) → Once b → Each SmallCall calls → length (journal b calls) ≡ 55 * length calls

@@ -1,4 +1,4 @@
-// Reading a call off its seven numbers: its number is matched over 1 to 13 and the range beyond, its fields are then matched by kind.
+// Reading a call off its seven numbers: its number is matched over 1 to 14 and the range beyond, its fields are then matched by kind.
 ghost use mathlib.Core.Path.{_≡_};
 ghost use mathlib.Core.Bool.{_&&_};
 ghost use Rattle.rules.specs.Call.{isDay, isTime, inRange, inForm, inRanges, kindOf, entryOf, isCall, named, decoded};
@@ -10,6 +10,26 @@ use rules::GateNo;
 use rules::Kind;
 use rules::Seven;
 use rules::TrainNo;
+
+// Day is 0 to 9999.
+fn is_day(day: u16) -> bool
+    ensures { λ r. ⌜ r ≡ isDay day ⌝ }
+{
+    day <= 9999
+}
+
+// Time is hhmm on the 24-hour clock.
+fn is_time(time: u16) -> bool
+    ensures { λ r. ⌜ r ≡ isTime time ⌝ }
+{
+    (time / 100 < 24) & (time % 100 < 60)
+}
+
+fn is_stamp(day: u16, time: u16) -> bool
+    ensures { λ r. ⌜ r ≡ (isDay day && isTime time) ⌝ }
+{
+    is_day(day) & is_time(time)
+}
 
 // The value is in the range of its kind of field; next is the value of the field after it.
 fn is_in_range(portions: u16, gates: usize, field: Field, value: u16, next: u16) -> bool
@@ -27,14 +47,10 @@ fn is_in_range(portions: u16, gates: usize, field: Field, value: u16, next: u16)
         Field::Assurances => value <= 7,
         Field::AuthorityOrNone => value <= 9999,
         Field::OfficerOrNone => value <= 999,
+        Field::Day => is_day(value),
+        Field::Time => is_time(value),
+        Field::Length => 1 <= value,
     }
-}
-
-// Day is 0 to 9999, time hhmm on the 24-hour clock.
-fn is_stamp(day: u16, time: u16) -> bool
-    ensures { λ r. ⌜ r ≡ (isDay day && isTime time) ⌝ }
-{
-    (day <= 9999) & (time / 100 < 24) & (time % 100 < 60)
 }
 
 // The kinds of the four fields of the call with that number.
@@ -119,6 +135,12 @@ fn form_of(call: u16) -> Form
             b: Field::Unused,
             c: Field::Unused,
             d: Field::Unused,
+        },
+        14 => Form {
+            a: Field::Authority,
+            b: Field::Day,
+            c: Field::Time,
+            d: Field::Length,
         },
         _ => Form {
             a: Field::Unused,
@@ -214,6 +236,12 @@ fn name(s: Seven) -> Call
         13 => Call::Passed {
             train: TrainNo(s.a),
         },
+        14 => Call::Term {
+            authority: AuthorityNo(s.a),
+            day: s.b,
+            time: s.c,
+            length: s.d,
+        },
         _ => Call::NoSuchCall,
     }
 }
@@ -224,7 +252,7 @@ pub fn decode(portions: u16, gates: usize, s: Seven) -> Call
     ensures { λ r. ⌜ r ≡ decoded portions gates s ⌝ }
 {
     let call = s.call;
-    if (call < 1) | (13 < call) {
+    if (call < 1) | (14 < call) {
         return Call::NoSuchCall;
     }
     if !is_stamp(s.day, s.time) {

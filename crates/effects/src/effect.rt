@@ -7,6 +7,7 @@ ghost use Rattle.rules.specs.Refusals.{lowest, own};
 ghost use Rattle.places.specs.Places.{HeadBounds, registerIn, boardIn};
 ghost use Rattle.effects.specs.Effects.{EffectPost, HasRoom};
 use answers::gate_at;
+use answers::minute_of;
 use held::Change;
 use held::Found;
 use held::FoundTrain;
@@ -43,6 +44,8 @@ fn request(
         in_force: false,
         workers_on: false,
         agreed: AuthorityNo(0),
+        start: 0,
+        length: 0,
     };
     held::add_authority(authorities, head.live, a);
     let mut out = head;
@@ -300,6 +303,28 @@ fn passed(
     out
 }
 
+fn term(
+    head: Head,
+    gates: &[u16; 192],
+    authorities: &mut [u64; 256],
+    trains: &mut [u16; 128],
+    n: AuthorityNo,
+    day: u16,
+    time: u16,
+    length: u16,
+) -> Head
+    requires { ⌜ HeadBounds head ⌝ }
+    ensures { λ out. ⌜ EffectPost (registerIn head (now (gates .entry)) (now (authorities .entry)) (now (trains .entry))) (Call.Term n day time length) (registerIn out (now (gates .entry)) (now (authorities .exit)) (now (trains .exit))) ⌝ }
+{
+    held::amend(
+        authorities,
+        head.live,
+        n,
+        Change::Term(minute_of(day, time), length),
+    );
+    head
+}
+
 // Does what the accepted call does, but for its stamp.
 pub fn effect_of(
     head: Head,
@@ -413,5 +438,20 @@ pub fn effect_of(
             officer,
         ),
         Call::Passed { train } => passed(head, gates, authorities, trains, train),
+        Call::Term {
+            authority,
+            day,
+            time,
+            length,
+        } => term(
+            head,
+            gates,
+            authorities,
+            trains,
+            authority,
+            day,
+            time,
+            length,
+        ),
     }
 }

@@ -4,11 +4,11 @@ use mathlib.Core.Bool.{Bool, true, false, cond}
 use mathlib.Core.List.{List, [], _∷_}
 use Rattle.rules.specs.declared.Authority.{Authority}
 use Rattle.rules.specs.Refusals.{isE, isW}
-use Rattle.rules.specs.Effects.{granted, withSite, withOfficer, withAgreed}
+use Rattle.rules.specs.Effects.{granted, withSite, withOfficer, withAgreed, withTerm}
 use Rattle.held.specs.declared.authorities.Found.{Found}
 use Rattle.held.specs.declared.authorities.Found.the-variants.{Is, Nothing}
 use Rattle.held.specs.declared.authorities.Change.{Change}
-use Rattle.held.specs.declared.authorities.Change.the-variants.{Granted, Site, Officer, Agreed}
+use Rattle.held.specs.declared.authorities.Change.the-variants.{Granted, Site, Officer, Agreed, Term}
 
 -- the authority is in force, its limits hold the portion, and it is exclusive or a TWA, as is said: 01's E and W
 unfoldable pub holdsPortion : Bool → ℕ → Authority → Bool
@@ -29,3 +29,4 @@ changeOf Granted a = granted a
 changeOf (Site on) a = withSite on a
 changeOf (Officer officer) a = withOfficer officer a
 changeOf (Agreed toa) a = withAgreed toa a
+changeOf (Term start length) a = withTerm start length a

@@ -4,7 +4,7 @@ ghost use mathlib.Core.List.{_++_, _∷_, []};
 ghost use Prim.Native.Nat.{_+_, _≤_, _<_};
 ghost use Rattle.lists.specs.Search.{any, keep, change};
 ghost use Rattle.lists.specs.Prefix.{prefix};
-ghost use Rattle.rules.specs.Board.{exclusive, isToa, isTwa, isAuthority, isNotAuthority};
+ghost use Rattle.rules.specs.Board.{exclusive, isLpa, isToa, isTwa, isAuthority, isNotAuthority};
 ghost use Rattle.rules.specs.Refusals.{clashes, inForceNeeds};
 ghost use Rattle.places.specs.Places.{authoritiesIn};
 ghost use Rattle.held.specs.Authorities.{foundIn, isIn, holdsPortion, changeOf};
@@ -27,6 +27,7 @@ pub enum Change {
     Site(bool),
     Officer(u16),
     Agreed(AuthorityNo),
+    Term(u32, u16),
 }
 
 pub fn is_exclusive(kind: Kind) -> bool
@@ -35,6 +36,16 @@ pub fn is_exclusive(kind: Kind) -> bool
     match kind {
         Kind::Lpa => true,
         Kind::Toa => true,
+        Kind::Twa => false,
+    }
+}
+
+pub fn is_lpa(kind: Kind) -> bool
+    ensures { λ r. ⌜ r ≡ isLpa kind ⌝ }
+{
+    match kind {
+        Kind::Lpa => true,
+        Kind::Toa => false,
         Kind::Twa => false,
     }
 }
@@ -177,6 +188,11 @@ fn changed(c: Change, a: Authority) -> Authority
         }
         Change::Agreed(toa) => {
             x.agreed = toa;
+            x
+        }
+        Change::Term(start, length) => {
+            x.start = start;
+            x.length = length;
             x
         }
     }

@@ -11,6 +11,7 @@ pub use authorities::find;
 pub use authorities::find_holding;
 pub use authorities::is_exclusive;
 pub use authorities::is_found;
+pub use authorities::is_lpa;
 pub use authorities::is_overlapped;
 pub use authorities::is_still_needed;
 pub use authorities::is_toa;

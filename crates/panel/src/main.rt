@@ -5,13 +5,14 @@ mod scenario;
 
 use scenario::scenario;
 
-// E1 to E10.
+// E1 to E10, and E1 to E6 for an LPA (02, order 1).
 fn worked_cases() {
     scenario(b"E1 to E6\n", b"plan-line", b"calls-e1-e6");
     scenario(b"E7\n", b"plan-line", b"calls-e7");
     scenario(b"E8\n", b"plan-line", b"calls-e8");
     scenario(b"E9\n", b"plan-line", b"calls-e9");
     scenario(b"E10\n", b"plan-line", b"calls-e10");
+    scenario(b"E1 to E6 with an LPA\n", b"plan-line", b"calls-e1-e6-lpa");
 }
 
 // The refusals that come before a call's own.
@@ -61,6 +62,54 @@ fn continues() {
     );
 }
 
+// TERM, and an LPA's term at GRANT and after (02, order 1).
+fn terms() {
+    scenario(b"14 TERM\n", b"plan-line", b"calls-term");
+    scenario(b"14 TERM and its notice\n", b"plan-line", b"calls-term-21");
+    scenario(b"22 at GRANT\n", b"plan-line", b"calls-term-grant");
+    scenario(
+        b"the shortest and the longest term\n",
+        b"plan-line",
+        b"calls-term-length",
+    );
+    scenario(b"terms at midnight\n", b"plan-line", b"calls-term-midnight");
+    scenario(
+        b"22 behind the others at GRANT\n",
+        b"plan-line",
+        b"calls-term-grant-last",
+    );
+    scenario(
+        b"an LPA past its end\n",
+        b"plan-line",
+        b"calls-term-in-force",
+    );
+}
+
+// An LPA's term at CONTINUE, and the ends of terms.
+fn terms_continued() {
+    scenario(b"22 at CONTINUE\n", b"plan-line", b"calls-term-continue");
+    scenario(
+        b"22 at CONTINUE of an LPA as an LPA\n",
+        b"plan-line",
+        b"calls-term-continue-lpa",
+    );
+    scenario(
+        b"22 behind the others at CONTINUE\n",
+        b"plan-line",
+        b"calls-term-continue-last",
+    );
+    scenario(
+        b"a term ends with its authority\n",
+        b"plan-line",
+        b"calls-term-ends",
+    );
+    scenario(
+        b"terms at the end of the days\n",
+        b"plan-line",
+        b"calls-term-last-day",
+    );
+}
+
 // The calls on trains.
 fn movements() {
     scenario(b"12 MOVE with no authority\n", b"plan-both", b"calls-move");
@@ -88,7 +137,7 @@ fn greatest() {
     scenario(b"32 trains\n", b"plan-full", b"calls-32-trains");
 }
 
-// 01's likely blunders: each scenario would show its own.
+// 01's likely blunders, and one of 02's order 1: each scenario would show its own.
 fn blunders() {
     scenario(
         b"blunder: pending counted as in force\n",
@@ -114,6 +163,11 @@ fn blunders() {
         b"blunder: blocks freed at FULFIL\n",
         b"plan-line",
         b"calls-blunder-fulfil",
+    );
+    scenario(
+        b"blunder: a refused TERM kept\n",
+        b"plan-line",
+        b"calls-blunder-term",
     );
 }
 
@@ -142,6 +196,8 @@ fn main() {
     requests_and_blocks();
     authorities_in_force();
     continues();
+    terms();
+    terms_continued();
     movements();
     greatest();
     blunders();

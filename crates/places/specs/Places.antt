@@ -1,6 +1,6 @@
 -- What the numbers of a lent array stand for. Only functions below `open`, `call` and `run` cite these, so a reader of those contracts
 -- need not believe them. Assumes nothing.
-use Prim.Native.Nat.{ℕ, zero, suc, _%_, _≤_}
+use Prim.Native.Nat.{ℕ, zero, suc, _/_, _%_, _≤_}
 use mathlib.Core.List.{List, [], _∷_, map}
 use lib.ListN.{take, drop, getD}
 use lib.Dec.{eqb}
@@ -34,6 +34,8 @@ authorityFrom group = record {
   «in_force» = eqb (nth 4 group) 1;
   «workers_on» = eqb (nth 5 group) 1;
   agreed = record { 0 = nth 6 group % 65536 };
+  start = nth 7 group / 65536 % 4294967296;
+  length = nth 7 group % 65536;
 }
 
 unfoldable pub trainFrom : List ℕ → Train

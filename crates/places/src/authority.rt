@@ -1,7 +1,7 @@
-// An authority in eight numbers: its number, kind, limits, officer, stage, site and agreed TOA; the eighth is not used.
+// An authority in eight numbers: its number, kind, limits, officer, stage, site, agreed TOA, and its term: start times 65536, plus length.
 ghost use mathlib.Core.Path.{_≡_};
 ghost use mathlib.Core.Bool.{cond};
-ghost use Prim.Native.Nat.{_<_, _%_};
+ghost use Prim.Native.Nat.{_<_, _+_, _*_, _/_, _%_};
 ghost use lib.ListN.{getD, set};
 ghost use Rattle.rules.specs.Board.{noAuthority, kindNo};
 ghost use Rattle.rules.specs.Call.{kindOf};
@@ -21,6 +21,20 @@ fn wide(n: u16) -> u64
     ensures { λ r. ⌜ r ≡ n ⌝ }
 {
     n as u64
+}
+
+// The start of the term that a number stands for.
+fn start_of(n: u64) -> u32
+    ensures { λ r. ⌜ r ≡ n / 65536 % 4294967296 ⌝ }
+{
+    (n / 65536 % 4294967296) as u32
+}
+
+// A term as a number.
+fn term_no(start: u32, length: u16) -> u64
+    ensures { λ r. ⌜ r ≡ start * 65536 + length ⌝ }
+{
+    start as u64 * 65536 + length as u64
 }
 
 // 1 for true, 0 for false.
@@ -55,6 +69,7 @@ pub fn authority_at(authorities: &[u64; 256], i: usize) -> Authority
     ensures { λ r. ⌜ r ≡ getD (authoritiesIn (now (authorities .entry))) i noAuthority ⌝ }
 {
     let at = 8 * i;
+    let term = authorities[at + 7];
     Authority {
         number: AuthorityNo(narrow(authorities[at])),
         kind: kind_of(authorities[at + 1]),
@@ -63,6 +78,8 @@ pub fn authority_at(authorities: &[u64; 256], i: usize) -> Authority
         in_force: authorities[at + 4] == 1,
         workers_on: authorities[at + 5] == 1,
         agreed: AuthorityNo(narrow(authorities[at + 6])),
+        start: start_of(term),
+        length: narrow(term),
     }
 }
 
@@ -79,4 +96,5 @@ pub fn put_authority(authorities: &mut [u64; 256], i: usize, x: Authority)
     authorities[at + 4] = flag(x.in_force);
     authorities[at + 5] = flag(x.workers_on);
     authorities[at + 6] = wide(x.agreed.0);
+    authorities[at + 7] = term_no(x.start, x.length);
 }

@@ -100,6 +100,8 @@ fn read_authorities(authorities: &[u64; 256]) -> [Authority; 32]
         in_force: false,
         workers_on: false,
         agreed: AuthorityNo(0),
+        start: 0,
+        length: 0,
     };
     let mut list = [none; 32];
     let mut i: usize = 0;

@@ -1,5 +1,5 @@
 -- Demands 1 and 2 of the rules: "the lowest number whose condition holds is given", accepted exactly where no condition holds, and
--- what a refused call leaves; and that no answer is above 19. Assumes nothing.
+-- what a refused call leaves; and the greatest answer. Assumes nothing.
 use Prim.Native.Nat.{ℕ, zero, _≤_, _<_}
 use native.Mathlib.Omega.{arith}
 use mathlib.Core.Path.{_≡_, refl, sym, ap, _∙_}
@@ -13,7 +13,7 @@ use Rattle.lists.proofs.Tests.{and-l, and-r}
 use Rattle.lists.proofs.Search.{Member}
 use Rattle.rules.specs.declared.Seven.{Seven}
 use Rattle.rules.specs.declared.Call.{Call}
-use Rattle.rules.specs.declared.Call.the-variants.{NoSuchCall, BadField, Request, Withdraw, Agree, Block, Unblock, Grant, Clear, Reoccupy, HandOver, Fulfil, Continue, Move, Passed}
+use Rattle.rules.specs.declared.Call.the-variants.{NoSuchCall, BadField, Request, Withdraw, Agree, Block, Unblock, Grant, Clear, Reoccupy, HandOver, Fulfil, Continue, Move, Passed, Term}
 use Rattle.rules.specs.Board.{Board}
 use Rattle.rules.specs.Call.{named}
 use Rattle.rules.specs.Refusals.{Refusal, lowest, own, conditions, answer}
@@ -22,9 +22,13 @@ use Rattle.rules.specs.Step.{after, allotted}
 
 -- ---- every list of conditions is ascending
 
--- the numbers ascend, all above n, none above 19
+-- the greatest refusal of a call
+abbrev pub greatest : ℕ
+greatest = 22
+
+-- the numbers ascend, all above n, none above the greatest
 unfoldable pub ascends : ℕ → List Refusal → Bool
-ascends n [] = leb n 19
+ascends n [] = leb n greatest
 ascends n (r ∷ rs) = ltb n (r .number) && ascends (r .number) rs
 
 own-ascends : (b : Board) (s : Seven) (c : Call) → ascends 4 (own b s c) ≡ true
@@ -44,6 +48,7 @@ own-ascends b s (Fulfil n officer assurances) = refl
 own-ascends b s (Continue old new officerOld officerNew) = refl
 own-ascends b s (Move t g n officer) = refl
 own-ascends b s (Passed t) = refl
+own-ascends b s (Term n day time length) = refl
 
 -- THEOREM: the conditions of every call are listed in ascending order, from 1 on, so the first that holds is the lowest
 pub ascending : (b : Board) (s : Seven) (room : ℕ) → ascends 0 (conditions b s room) ≡ true
@@ -186,27 +191,27 @@ unfolding conditionAt
 at-none n [] h = refl
 at-none n (r ∷ rs) h = at-step n r rs (h r (List·Memᴰ·head refl)) (at-none n rs (λ q m. h q (List·Memᴰ·tail m))) (eqb (r .number) n)
 
--- ---- an answer is 0 or one of the 19 refusals
+-- ---- no answer is above the greatest refusal
 
 pub cond-most : (t : Bool) (x y most : ℕ) → x ≤ most → y ≤ most → cond t x y ≤ most
 cond-most true x y most h k = h
 cond-most false x y most h k = k
 
--- what the numbers are above is itself at most 19
-below-19 : (n : ℕ) (rs : List Refusal) → ascends n rs ≡ true → n ≤ 19
+-- what the numbers are above is itself at most the greatest
+below-greatest : (n : ℕ) (rs : List Refusal) → ascends n rs ≡ true → n ≤ greatest
 unfolding ascends
-below-19 n [] h = leb-true n 19 h
-below-19 n (r ∷ rs) h =
+below-greatest n [] h = leb-true n greatest h
+below-greatest n (r ∷ rs) h =
     let more = ltb-true n (r .number) (and-l (ltb n (r .number)) (ascends (r .number) rs) h) in
-    omega (arith, below-19 (r .number) rs (and-r (ltb n (r .number)) (ascends (r .number) rs) h))
+    omega (arith, below-greatest (r .number) rs (and-r (ltb n (r .number)) (ascends (r .number) rs) h))
 
-lowest-19 : (n : ℕ) (rs : List Refusal) → ascends n rs ≡ true → lowest rs ≤ 19
+lowest-most : (n : ℕ) (rs : List Refusal) → ascends n rs ≡ true → lowest rs ≤ greatest
 unfolding ascends lowest
-lowest-19 n [] h = omega arith
-lowest-19 n (r ∷ rs) h =
+lowest-most n [] h = omega arith
+lowest-most n (r ∷ rs) h =
     let rest = and-r (ltb n (r .number)) (ascends (r .number) rs) h in
-    cond-most (r .holds) (r .number) (lowest rs) 19 (below-19 (r .number) rs rest) (lowest-19 (r .number) rs rest)
+    cond-most (r .holds) (r .number) (lowest rs) greatest (below-greatest (r .number) rs rest) (lowest-most (r .number) rs rest)
 
-pub answer-19 : (b : Board) (s : Seven) (room : ℕ) → answer b s room ≤ 19
+pub answer-most : (b : Board) (s : Seven) (room : ℕ) → answer b s room ≤ greatest
 unfolding answer
-answer-19 b s room = lowest-19 0 (conditions b s room) (ascending b s room)
+answer-most b s room = lowest-most 0 (conditions b s room) (ascending b s room)

@@ -1,4 +1,4 @@
--- The ten cases of 01 marked E, from the rules by computation, in one joint theorem. Assumes nothing.
+-- The ten cases of 01 marked E, and those of 02's order 1, from the rules by computation, in one joint theorem. Assumes nothing.
 use Prim.Native.Nat.{ℕ}
 use mathlib.Core.Path.{_≡_, refl}
 use mathlib.Core.List.{List, [], _∷_, _++_}
@@ -24,9 +24,12 @@ planText =
     bytes "     3     4     0\n" ++ bytes "    99     0     1\n" ++ bytes "     0     1     1\n" ++ bytes "     1     2     1\n"
     ++ bytes "     2    99     1\n"
 
--- the call at a time of day 0
+-- the call at a time of a day, and of day 0
+abbrev pub on : ℕ → ℕ → ℕ → ℕ → ℕ → ℕ → ℕ → Seven
+on day time call a b c d = record { day = day; time = time; call = call; a = a; b = b; c = c; d = d }
+
 abbrev pub at : ℕ → ℕ → ℕ → ℕ → ℕ → ℕ → Seven
-at time call a b c d = record { day = 0; time = time; call = call; a = a; b = b; c = c; d = d }
+at time call a b c d = on 0 time call a b c d
 
 -- the journal of a list of calls: the lines that they write to buffers of 55 bytes
 unfoldable pub printed : Board.Board → List Seven → List ℕ
@@ -46,6 +49,11 @@ blockAll = at 1 4 0 0 0 0 ∷ at 1 4 1 0 0 0 ∷ at 1 4 2 0 0 0 ∷ at 1 4 3 0 0
 abbrev pub onBlocked : List Seven → List ℕ
 onBlocked calls = answers (Plan.openBoard planText) (blockAll ++ calls)
 
+-- an LPA over portion 1, its gate blocked, with a TERM made at 0600 of day 0: the answers of these three and of the calls that follow
+abbrev pub onTerm : ℕ → ℕ → ℕ → List Seven → List ℕ
+onTerm day time length calls =
+    answers (Plan.openBoard planText) (at 600 1 1 1 1 7 ∷ at 600 4 1 0 0 0 ∷ at 600 14 1 day time length ∷ calls)
+
 pub record Cases : Type 0 where
   -- E1 to E6: the whole output for six calls, byte for byte
   pub journal : printed (Plan.openBoard planText)
@@ -62,7 +70,18 @@ pub record Cases : Type 0 where
       ≡ 0 ∷ 0 ∷ 0 ∷ 0 ∷ 0 ∷ 0 ∷ 0 ∷ 0 ∷ 0 ∷ []
   -- E10: "a pending TOA over a TWA in force: 13"
   pub e10 : onBlocked (at 1 1 3 1 1 7 ∷ at 1 6 1 7 0 0 ∷ at 1 1 2 0 2 8 ∷ at 1 6 2 8 0 0 ∷ []) ≡ 0 ∷ 0 ∷ 0 ∷ 0 ∷ 0 ∷ 0 ∷ 0 ∷ 13 ∷ []
+  -- order 1: the six calls of E1 to E6 with an LPA in the first. It has no term, so GRANT is 22 and the gate is not needed.
+  pub lpa : answers (Plan.openBoard planText)
+      (at 2200 1 1 1 1 7 ∷ at 2201 6 1 7 0 0 ∷ at 2202 4 1 0 0 0 ∷ at 2203 6 1 7 0 0 ∷ at 2204 5 1 0 0 0 ∷ at 2260 5 1 0 0 0 ∷ [])
+      ≡ 0 ∷ 11 ∷ 0 ∷ 22 ∷ 0 ∷ 3 ∷ []
+  -- order 1: 10,079 minutes ahead is 21 and leaves no term, 10,080 serves; a second TERM is 8
+  pub notice : onTerm 7 559 60 (on 7 559 6 1 7 0 0 ∷ []) ≡ 0 ∷ 0 ∷ 21 ∷ 22 ∷ []
+  pub week : onTerm 7 600 60 (at 600 14 1 7 600 60 ∷ []) ≡ 0 ∷ 0 ∷ 0 ∷ 8 ∷ []
+  -- order 1: from 2330 of day 7 for an hour, over midnight: 22 in the minute before, 0 at the start; 0 in the last minute, 22 in the one after
+  pub start : onTerm 7 2330 60 (on 7 2329 6 1 7 0 0 ∷ on 7 2330 6 1 7 0 0 ∷ []) ≡ 0 ∷ 0 ∷ 0 ∷ 22 ∷ 0 ∷ []
+  pub end : onTerm 7 2330 60 (on 8 29 6 1 7 0 0 ∷ []) ≡ 0 ∷ 0 ∷ 0 ∷ 0 ∷ []
+  pub over : onTerm 7 2330 60 (on 8 30 6 1 7 0 0 ∷ []) ≡ 0 ∷ 0 ∷ 0 ∷ 22 ∷ []
 
 pub cases : Cases
-unfolding planText printed answers bytes Search.any Search.first Search.keep Search.change Search.below Column.digitsIn Column.digits Column.column Line.line Reading.sameText Reading.valueFrom Reading.isColumn Reading.readColumn Reading.firstColumn Reading.rowOf Sets.has Sets.setOf Sets.run Sets.insert Sets.remove Sets.shares Board.opened Board.closed Board.live Board.authority Board.touches Board.needs Call.isDay Call.isTime Call.inRange Call.inRanges Call.calls Call.entryOf Call.isCall Call.named Call.inForm Refusals.lowest Refusals.early Refusals.notLive Refusals.notOfficer Refusals.notToAgree Refusals.full Refusals.isOpen Refusals.unprotected Refusals.occupied Refusals.clashes Refusals.overlaps Refusals.inForceNeeds Refusals.stillNeeded Refusals.own Refusals.conditions Refusals.answer Effects.effect Plan.planLine Plan.planNumber Plan.isHead Plan.isPlace Plan.isGate Plan.gateOn Plan.areGates Plan.gatesOn Plan.isPlan Plan.openBoard Journal.journalLine Journal.lineAfter Step.after Step.allotted
-cases = record { journal = refl; e7 = refl; e8 = refl; e9 = refl; e10 = refl }
+unfolding planText printed answers bytes Search.any Search.first Search.keep Search.change Search.below Column.digitsIn Column.digits Column.column Line.line Reading.sameText Reading.valueFrom Reading.isColumn Reading.readColumn Reading.firstColumn Reading.rowOf Sets.has Sets.setOf Sets.run Sets.insert Sets.remove Sets.shares Board.opened Board.closed Board.live Board.authority Board.touches Board.needs Call.isDay Call.isTime Call.minuteOf Call.inRange Call.inRanges Call.calls Call.entryOf Call.isCall Call.named Call.inForm Refusals.lowest Refusals.early Refusals.notLive Refusals.notOfficer Refusals.notToAgree Refusals.full Refusals.isOpen Refusals.unprotected Refusals.occupied Refusals.clashes Refusals.overlaps Refusals.inForceNeeds Refusals.stillNeeded Refusals.minute Refusals.notPendingLpa Refusals.tooSoon Refusals.inTerm Refusals.outsideTerm Refusals.own Refusals.conditions Refusals.answer Effects.effect Plan.planLine Plan.planNumber Plan.isHead Plan.isPlace Plan.isGate Plan.gateOn Plan.areGates Plan.gatesOn Plan.isPlan Plan.openBoard Journal.journalLine Journal.lineAfter Step.after Step.allotted
+cases = record { journal = refl; e7 = refl; e8 = refl; e9 = refl; e10 = refl; lpa = refl; notice = refl; week = refl; start = refl; end = refl; over = refl }

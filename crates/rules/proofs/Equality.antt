@@ -8,7 +8,7 @@ use Rattle.rules.specs.Call.{kindOf}
 use Rattle.rules.specs.Board.{Board, kindNo, isTwa, SameAuthority, EachIn, Same}
 
 same-authority : (a : Authority) → SameAuthority a a
-same-authority a = record { number = refl; kind = refl; limits = refl; officer = refl; stage = refl; site = refl; agreed = λ t f. refl }
+same-authority a = record { number = refl; kind = refl; limits = refl; officer = refl; stage = refl; site = refl; agreed = λ t f. refl; start = refl; length = refl }
 
 pub same-refl : (b : Board) → Same b b
 same-refl b = record {
@@ -38,6 +38,8 @@ then-authority x y z s t = record {
   stage = s .stage ∙ t .stage;
   site = s .site ∙ t .site;
   agreed = λ w f. s .agreed w f ∙ t .agreed (ap isTwa (sym (s .kind)) ∙ w) (sym (s .stage) ∙ f);
+  start = s .start ∙ t .start;
+  length = s .length ∙ t .length;
 }
 
 each-then : {A : Type 0} (Like : A → A → Type 0) → ((x y z : A) → Like x y → Like y z → Like x z) → (xs ys zs : List A)

@@ -13,3 +13,4 @@ pub mod Safety
 pub mod Equality
 pub mod Lines
 pub mod Traces
+pub mod Terms

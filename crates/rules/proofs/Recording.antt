@@ -23,11 +23,11 @@ use Rattle.rules.specs.declared.Authority.{Authority}
 use Rattle.rules.specs.declared.Train.{Train}
 use Rattle.rules.specs.declared.Seven.{Seven}
 use Rattle.rules.specs.declared.Call.{Call}
-use Rattle.rules.specs.declared.Call.the-variants.{Request, Withdraw, Agree, Block, Unblock, Clear, HandOver, Fulfil}
+use Rattle.rules.specs.declared.Call.the-variants.{Request, Withdraw, Agree, Block, Unblock, Clear, HandOver, Fulfil, Term}
 use Rattle.rules.specs.Board.{Board, gateAt, isToa, inForce, workersOn, authorityNo, trainNo, live, authority, needs, withAuthorities, ended}
 use Rattle.rules.specs.Refusals.{notLive, notToAgree, stillNeeded, inForceNeeds, own}
-use Rattle.rules.specs.Effects.{requested, withSite, withOfficer, withAgreed, withAuthority, isWith, freed, effect}
-use Rattle.rules.specs.Call.{authorityOf}
+use Rattle.rules.specs.Effects.{requested, withSite, withOfficer, withAgreed, withTerm, withAuthority, isWith, freed, effect}
+use Rattle.rules.specs.Call.{authorityOf, minuteOf}
 use Rattle.rules.specs.Reckoning as Reckoning
 use Rattle.rules.specs.Reckoning.{Reckoned, put, asRequested, asForced, asSited, asAgreed, reckon}
 use Rattle.rules.specs.Claim.{In, Forced, Safe}
@@ -162,7 +162,7 @@ module _ (b : Board) (r : Reckoning.Reckoning) (F : Follows b r) (S : Safe (b .g
           let t = F .toa a m z in
           (ap (λ (y : Reckoned). y .kind) (put-other n x (r .authority) (a .agreed .0) (λ e. omega (arith, t .1))) ∙ t .0, omega (arith, t .1))
 
-  -- ---- WITHDRAW and HAND OVER: nothing is reckoned
+  -- ---- WITHDRAW, HAND OVER and TERM: nothing is reckoned
 
   pub keeps-withdraw : (n : AuthorityNo) (officer : ℕ) → Accepted b s (Withdraw n officer) → Keeps b r (Withdraw n officer)
   unfolding effect reckon own conditionAt
@@ -189,6 +189,15 @@ module _ (b : Board) (r : Reckoning.Reckoning) (F : Follows b r) (S : Safe (b .g
     follows =
         follows-unreckoned b r F (n .0) (withOfficer into) (λ a. refl) (λ a. refl)
         (λ a x h. held-anew x x a (withOfficer into a) h refl refl refl refl refl refl (h .force) (h .site) (h .agreed));
+    safe = S;
+  }
+
+  pub keeps-term : (n : AuthorityNo) (day time length : ℕ) → Keeps b r (Term n day time length)
+  unfolding effect reckon
+  keeps-term n day time length = record {
+    follows =
+        follows-unreckoned b r F (n .0) (withTerm (minuteOf day time) length) (λ a. refl) (λ a. refl)
+        (λ a x h. held-anew x x a (withTerm (minuteOf day time) length a) h refl refl refl refl refl refl (h .force) (h .site) (h .agreed));
     safe = S;
   }
 

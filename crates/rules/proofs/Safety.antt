@@ -11,7 +11,7 @@ use Rattle.portions.proofs.Bits.{has-none}
 use Rattle.rules.specs.declared.Gate.{Gate}
 use Rattle.rules.specs.declared.Seven.{Seven}
 use Rattle.rules.specs.declared.Call.{Call}
-use Rattle.rules.specs.declared.Call.the-variants.{NoSuchCall, BadField, Request, Withdraw, Agree, Block, Unblock, Grant, Clear, Reoccupy, HandOver, Fulfil, Continue, Move, Passed}
+use Rattle.rules.specs.declared.Call.the-variants.{NoSuchCall, BadField, Request, Withdraw, Agree, Block, Unblock, Grant, Clear, Reoccupy, HandOver, Fulfil, Continue, Move, Passed, Term}
 use Rattle.rules.specs.Board.{Board, opened, withStamp}
 use Rattle.rules.specs.Call.{named}
 use Rattle.rules.specs.Refusals.{answer}
@@ -24,7 +24,7 @@ use Rattle.rules.proofs.Accepted.{Accepted, accepted}
 use Rattle.rules.proofs.Opening.{fresh}
 use Rattle.rules.proofs.Follows.{Follows}
 use Rattle.rules.proofs.Claims.{safe-start}
-use Rattle.rules.proofs.Recording.{Keeps, keeps-request, keeps-withdraw, keeps-agree, keeps-block, keeps-unblock, keeps-clear, keeps-handOver, keeps-fulfil}
+use Rattle.rules.proofs.Recording.{Keeps, keeps-request, keeps-withdraw, keeps-agree, keeps-block, keeps-unblock, keeps-clear, keeps-handOver, keeps-term, keeps-fulfil}
 use Rattle.rules.proofs.Granting.{keeps-grant, keeps-reoccupy, keeps-continue}
 use Rattle.rules.proofs.Moving.{keeps-move, keeps-passed}
 
@@ -46,6 +46,7 @@ keeps b r F S s (Fulfil n officer assurances) k = keeps-fulfil b r F S s n offic
 keeps b r F S s (Continue old new officerOld officerNew) k = keeps-continue b r F S s old new officerOld officerNew k
 keeps b r F S s (Move t g n officer) k = keeps-move b r F S s t g n officer k
 keeps b r F S s (Passed t) k = keeps-passed b r F S s t k
+keeps b r F S s (Term n day time length) k = keeps-term b r F S s n day time length
 
 -- the plan stays
 gates-stay : (b : Board) (c : Call) → effect b c .gates ≡ b .gates
@@ -65,6 +66,7 @@ gates-stay b (Fulfil n officer assurances) = refl
 gates-stay b (Continue old new officerOld officerNew) = refl
 gates-stay b (Move t g n officer) = refl
 gates-stay b (Passed t) = refl
+gates-stay b (Term n day time length) = refl
 
 -- ---- a list of calls
 

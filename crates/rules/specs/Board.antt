@@ -82,6 +82,8 @@ noAuthority = record {
   «in_force» = false;
   «workers_on» = false;
   agreed = record { 0 = 0 };
+  start = 0;
+  length = 0;
 }
 
 abbrev pub noTrain : Train
@@ -104,6 +106,11 @@ exclusive Lpa = true
 exclusive Toa = true
 exclusive Twa = false
 
+abbrev pub isLpa : Kind → Bool
+isLpa Lpa = true
+isLpa Toa = false
+isLpa Twa = false
+
 abbrev pub isToa : Kind → Bool
 isToa Lpa = false
 isToa Toa = true
@@ -120,6 +127,10 @@ inForce a = a .«in_force»
 
 abbrev pub workersOn : Authority → Bool
 workersOn a = a .«workers_on»
+
+-- the authority has a term (02, order 1): one of 1 to 65535 minutes, so that the length 0 stands for none
+abbrev pub hasTerm : Authority → Bool
+hasTerm a = not (eqb (a .length) 0)
 
 -- the number of an authority, and of a train
 abbrev pub authorityNo : Authority → ℕ
@@ -242,7 +253,7 @@ gone n ts = keep (isNotTrain n) ts
 
 -- ---- 01's equality of registers
 
--- "the agreed TOA counts only while its TWA is pending"
+-- "the agreed TOA counts only while its TWA is pending"; 02, order 1: "Terms count when registers are compared."
 pub record SameAuthority (x y : Authority) : Type 0 where
   pub number : authorityNo x ≡ authorityNo y
   pub kind : x .kind ≡ y .kind
@@ -251,6 +262,8 @@ pub record SameAuthority (x y : Authority) : Type 0 where
   pub stage : inForce x ≡ inForce y
   pub site : workersOn x ≡ workersOn y
   pub agreed : isTwa (x .kind) ≡ true → inForce x ≡ false → x .agreed .0 ≡ y .agreed .0
+  pub start : x .start ≡ y .start
+  pub length : x .length ≡ y .length
 
 -- each element of one list has its like in the other
 abbrev pub EachIn : {A : Type 0} → (A → A → Type 0) → List A → List A → Type 0

@@ -1,5 +1,5 @@
--- The seven numbers of a call, what its fields are called, and their ranges (01, "The thirteen calls"). Assumes nothing.
-use Prim.Native.Nat.{ℕ, _/_, _%_}
+-- The seven numbers of a call, what its fields are called, and their ranges (01, "The thirteen calls"; 02, order 1: TERM). Assumes nothing.
+use Prim.Native.Nat.{ℕ, _+_, _*_, _/_, _%_}
 use mathlib.Core.Bool.{Bool, cond, _&&_}
 use mathlib.Core.List.{List, [], _∷_}
 use lib.ListN.{length, getD}
@@ -11,7 +11,7 @@ use Rattle.rules.specs.declared.Kind.{Kind}
 use Rattle.rules.specs.declared.Kind.the-variants.{Lpa, Toa, Twa}
 use Rattle.rules.specs.declared.Seven.{Seven}
 use Rattle.rules.specs.declared.Call.{Call}
-use Rattle.rules.specs.declared.Call.the-variants.{NoSuchCall, BadField, Request, Withdraw, Agree, Block, Unblock, Grant, Clear, Reoccupy, HandOver, Fulfil, Continue, Move, Passed}
+use Rattle.rules.specs.declared.Call.the-variants.{NoSuchCall, BadField, Request, Withdraw, Agree, Block, Unblock, Grant, Clear, Reoccupy, HandOver, Fulfil, Continue, Move, Passed, Term}
 use Rattle.rules.specs.declared.Field.{Field}
 use Rattle.rules.specs.declared.Field.the-variants as Field
 use Rattle.rules.specs.declared.Form.{Form}
@@ -27,6 +27,10 @@ isDay day = leb day 9999
 
 unfoldable pub isTime : ℕ → Bool
 isTime time = ltb (time / 100) 24 && ltb (time % 100) 60
+
+-- the minute of a stamp: 1440 a day, and the minutes of the day
+unfoldable pub minuteOf : ℕ → ℕ → ℕ
+minuteOf day time = day * 1440 + time / 100 * 60 + time % 100
 
 -- the value of a field is in its range, on a board of P portions and G gates; `next` is the value of the field after it
 unfoldable pub inRange : ℕ → ℕ → Field → ℕ → ℕ → Bool
@@ -49,6 +53,10 @@ inRange P G Field.Assurances value next = leb value 7
 -- "In MOVE authority and officer may be 0."
 inRange P G Field.AuthorityOrNone value next = leb value 9999
 inRange P G Field.OfficerOrNone value next = leb value 999
+-- TERM (02, order 1): "start day, start time, length in minutes (1 to 65535)"
+inRange P G Field.Day value next = isDay value
+inRange P G Field.Time value next = isTime value
+inRange P G Field.Length value next = between 1 65535 value
 
 -- ---- the table of calls
 
@@ -76,7 +84,7 @@ pub record Entry : Type 0 where
 abbrev pub entry : Form → (Seven → Call) → Entry
 entry form named = record { form = form; named = named }
 
--- the calls 1 to 13 in order
+-- the calls in order: 1 to 13 of 01, and 14 of 02's order 1
 unfoldable pub calls : List Entry
 calls =
     entry (form Field.Kind Field.First Field.Last Field.Officer) (λ s. Request (kindOf (s .a)) (s .b) (s .c) (s .d))
@@ -92,6 +100,7 @@ calls =
     ∷ entry (form Field.Authority Field.Authority Field.Officer Field.Officer) (λ s. Continue (authorityOf (s .a)) (authorityOf (s .b)) (s .c) (s .d))
     ∷ entry (form Field.Train Field.Gate Field.AuthorityOrNone Field.OfficerOrNone) (λ s. Move (trainOf (s .a)) (gateOf (s .b)) (authorityOf (s .c)) (s .d))
     ∷ entry (form Field.Train Field.Unused Field.Unused Field.Unused) (λ s. Passed (trainOf (s .a)))
+    ∷ entry (form Field.Authority Field.Day Field.Time Field.Length) (λ s. Term (authorityOf (s .a)) (s .b) (s .c) (s .d))
     ∷ []
 
 abbrev pub noEntry : Entry

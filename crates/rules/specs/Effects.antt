@@ -1,4 +1,4 @@
--- What an accepted call does (01, "The thirteen calls"). Nothing else changes. Assumes nothing.
+-- What an accepted call does (01, "The thirteen calls"; 02, order 1: TERM). Nothing else changes. Assumes nothing.
 use Prim.Native.Nat.{ℕ, suc}
 use mathlib.Core.Bool.{Bool, true, false, cond}
 use mathlib.Core.List.{List, [], _∷_, _++_}
@@ -11,13 +11,13 @@ use Rattle.rules.specs.declared.Kind.{Kind}
 use Rattle.rules.specs.declared.Authority.{Authority}
 use Rattle.rules.specs.declared.Train.{Train}
 use Rattle.rules.specs.declared.Call.{Call}
-use Rattle.rules.specs.declared.Call.the-variants.{NoSuchCall, BadField, Request, Withdraw, Agree, Block, Unblock, Grant, Clear, Reoccupy, HandOver, Fulfil, Continue, Move, Passed}
+use Rattle.rules.specs.declared.Call.the-variants.{NoSuchCall, BadField, Request, Withdraw, Agree, Block, Unblock, Grant, Clear, Reoccupy, HandOver, Fulfil, Continue, Move, Passed, Term}
 use Rattle.rules.specs.Board.{Board, isOutside, gateAt, inForce, workersOn, authority, train, withAuthorities, withTrains, withBlocks, withLast, amended, ended, moved, gone}
-use Rattle.rules.specs.Call.{authorityOf}
+use Rattle.rules.specs.Call.{authorityOf, minuteOf}
 
 -- ---- what becomes of one authority
 
--- REQUEST "Adds it pending, site clear, agreed 0."
+-- REQUEST "Adds it pending, site clear, agreed 0.", and with no term
 abbrev pub requested : ℕ → Kind → ℕ → ℕ → Authority
 requested n kind limits officer = record {
   number = authorityOf n;
@@ -27,6 +27,8 @@ requested n kind limits officer = record {
   «in_force» = false;
   «workers_on» = false;
   agreed = authorityOf 0;
+  start = 0;
+  length = 0;
 }
 
 -- GRANT, and CONTINUE as new: "In force, workers on."
@@ -39,6 +41,8 @@ granted a = record {
   «in_force» = true;
   «workers_on» = true;
   agreed = a .agreed;
+  start = a .start;
+  length = a .length;
 }
 
 -- CLEAR and REOCCUPY: "They set the site."
@@ -51,6 +55,8 @@ withSite on a = record {
   «in_force» = inForce a;
   «workers_on» = on;
   agreed = a .agreed;
+  start = a .start;
+  length = a .length;
 }
 
 -- HAND OVER
@@ -63,6 +69,8 @@ withOfficer officer a = record {
   «in_force» = inForce a;
   «workers_on» = workersOn a;
   agreed = a .agreed;
+  start = a .start;
+  length = a .length;
 }
 
 -- AGREE: "Replaces an earlier agreement."
@@ -75,6 +83,22 @@ withAgreed toa a = record {
   «in_force» = inForce a;
   «workers_on» = workersOn a;
   agreed = toa;
+  start = a .start;
+  length = a .length;
+}
+
+-- TERM: the minute in which the term starts, and its length in minutes. It stays with the authority until that ends.
+abbrev pub withTerm : ℕ → ℕ → Authority → Authority
+withTerm start length a = record {
+  number = a .number;
+  kind = a .kind;
+  limits = a .limits;
+  officer = a .officer;
+  «in_force» = inForce a;
+  «workers_on» = workersOn a;
+  agreed = a .agreed;
+  start = start;
+  length = length;
 }
 
 -- ---- what becomes of one train
@@ -150,3 +174,5 @@ effect b (Passed t) =
     withTrains
     (cond (isOutside (train b (t .0) .head)) (gone (t .0) (b .trains)) (moved (t .0) withRearIn (b .trains)))
     b
+-- TERM
+effect b (Term n day time length) = withAuthorities (amended (n .0) (withTerm (minuteOf day time) length) (b .authorities)) b

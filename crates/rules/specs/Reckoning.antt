@@ -8,7 +8,7 @@ use Rattle.rules.specs.declared.Kind.{Kind}
 use Rattle.rules.specs.declared.Kind.the-variants.{Lpa}
 use Rattle.rules.specs.declared.Gate.{Gate}
 use Rattle.rules.specs.declared.Call.{Call}
-use Rattle.rules.specs.declared.Call.the-variants.{NoSuchCall, BadField, Request, Withdraw, Agree, Block, Unblock, Grant, Clear, Reoccupy, HandOver, Fulfil, Continue, Move, Passed}
+use Rattle.rules.specs.declared.Call.the-variants.{NoSuchCall, BadField, Request, Withdraw, Agree, Block, Unblock, Grant, Clear, Reoccupy, HandOver, Fulfil, Continue, Move, Passed, Term}
 use Rattle.rules.specs.Board.{isOutside, gateAt}
 use Rattle.rules.specs.Call.{between, named}
 use Rattle.rules.specs.Step.{Answered}
@@ -164,6 +164,8 @@ reckon gates r (Continue old new officerOld officerNew) =
     r)
 reckon gates r (Move t g n officer) = withTrains (put (t .0) (asMoved (gateAt gates (g .0)) (n .0) (r .train (t .0))) (r .train)) r
 reckon gates r (Passed t) = withTrains (put (t .0) (asPassed (r .train (t .0))) (r .train)) r
+-- TERM (02, order 1) changes nothing here: demand 3 speaks of what is in force, and a term is no part of that
+reckon gates r (Term n day time length) = r
 
 -- ---- "The reckoning of demand 3 reads the list in order: each call's seven numbers and its answer"
 

@@ -1,5 +1,5 @@
--- The conditions for refusal of each call, and its answer (01, "The thirteen calls" and "Refusal words"). Assumes nothing.
-use Prim.Native.Nat.{ℕ}
+-- The conditions for refusal of each call, and its answer (01, "The thirteen calls" and "Refusal words"; 02, order 1). Assumes nothing.
+use Prim.Native.Nat.{ℕ, _+_}
 use mathlib.Core.Bool.{Bool, cond, not, _&&_, _||_}
 use mathlib.Core.List.{List, [], _∷_}
 use lib.ListN.{length}
@@ -11,9 +11,9 @@ use Rattle.rules.specs.declared.Authority.{Authority}
 use Rattle.rules.specs.declared.Train.{Train}
 use Rattle.rules.specs.declared.Seven.{Seven}
 use Rattle.rules.specs.declared.Call.{Call}
-use Rattle.rules.specs.declared.Call.the-variants.{NoSuchCall, BadField, Request, Withdraw, Agree, Block, Unblock, Grant, Clear, Reoccupy, HandOver, Fulfil, Continue, Move, Passed}
-use Rattle.rules.specs.Board.{Board, isOutside, noAuthority, gateAt, exclusive, isToa, isTwa, inForce, workersOn, authorityNo, isTrain, live, authority, onBoard, train, touches, touchesPortion, needs}
-use Rattle.rules.specs.Call.{isCall, named, inRanges}
+use Rattle.rules.specs.declared.Call.the-variants.{NoSuchCall, BadField, Request, Withdraw, Agree, Block, Unblock, Grant, Clear, Reoccupy, HandOver, Fulfil, Continue, Move, Passed, Term}
+use Rattle.rules.specs.Board.{Board, isOutside, noAuthority, gateAt, exclusive, isLpa, isToa, isTwa, inForce, workersOn, hasTerm, authorityNo, isTrain, live, authority, onBoard, train, touches, touchesPortion, needs}
+use Rattle.rules.specs.Call.{minuteOf, isCall, named, inRanges}
 
 -- ---- "The lowest number whose condition holds is given."
 
@@ -89,6 +89,28 @@ inForceNeeds gate a = inForce a && needs (a .limits) gate
 
 unfoldable pub stillNeeded : Board → ℕ → Bool
 stillNeeded b g = any (inForceNeeds (gateAt (b .gates) g)) (b .authorities)
+
+-- ---- terms (02, order 1)
+
+-- the minute of a call
+unfoldable pub minute : Seven → ℕ
+minute s = minuteOf (s .day) (s .time)
+
+-- 6 stage, of TERM: "not a pending LPA"
+unfoldable pub notPendingLpa : Authority → Bool
+notPendingLpa a = not (isLpa (a .kind) && not (inForce a))
+
+-- 21: "the start is before the call or less than 10,080 minutes after it"
+unfoldable pub tooSoon : Seven → ℕ → Bool
+tooSoon s start = ltb start (minute s) || ltb start (minute s + 10080)
+
+-- "from the start minute up to the minute before start plus length"
+unfoldable pub inTerm : Seven → Authority → Bool
+inTerm s a = leb (a .start) (minute s) && ltb (minute s) (a .start + a .length)
+
+-- 22: "an LPA has no term or the minute is outside it"
+unfoldable pub outsideTerm : Seven → Authority → Bool
+outsideTerm s a = isLpa (a .kind) && (not (hasTerm a) || not (inTerm s a))
 
 -- ---- MOVE
 
@@ -180,15 +202,16 @@ unblockRefusals b g =
     ∷ 16 when stillNeeded b g
     ∷ []
 
--- GRANT {5; 6 not pending; 7; 11; 12 a train touches the limits; 13}
-abbrev pub grantRefusals : Board → ℕ → ℕ → List Refusal
-grantRefusals b n officer =
+-- GRANT {5; 6 not pending; 7; 11; 12 a train touches the limits; 13}; 22, order 1
+abbrev pub grantRefusals : Board → Seven → ℕ → ℕ → List Refusal
+grantRefusals b s n officer =
     5 when notLive b n
     ∷ 6 when inForce (authority b n)
     ∷ 7 when notOfficer b n officer
     ∷ 11 when unprotected b (authority b n)
     ∷ 12 when occupied b (authority b n)
     ∷ 13 when overlaps b 0 (authority b n)
+    ∷ 22 when outsideTerm s (authority b n)
     ∷ []
 
 -- CLEAR {5; 6 not in force; 7; 8}
@@ -228,15 +251,16 @@ fulfilRefusals b n officer assurances =
     ∷ 15 when not (eqb assurances 7)
     ∷ []
 
--- CONTINUE {5; 6 old not in force or new not pending; 7 either; 11, 12, 13 for the new}
-abbrev pub continueRefusals : Board → ℕ → ℕ → ℕ → ℕ → List Refusal
-continueRefusals b old new officerOld officerNew =
+-- CONTINUE {5; 6 old not in force or new not pending; 7 either; 11, 12, 13 for the new}; 22 for the new, order 1
+abbrev pub continueRefusals : Board → Seven → ℕ → ℕ → ℕ → ℕ → List Refusal
+continueRefusals b s old new officerOld officerNew =
     5 when (notLive b old || notLive b new)
     ∷ 6 when (not (inForce (authority b old)) || inForce (authority b new))
     ∷ 7 when (notOfficer b old officerOld || notOfficer b new officerNew)
     ∷ 11 when unprotected b (authority b new)
     ∷ 12 when occupiedBeside b old (authority b new)
     ∷ 13 when overlaps b old (authority b new)
+    ∷ 22 when outsideTerm s (authority b new)
     ∷ []
 
 -- MOVE {9, 12, 14, 17, 18, 19}, through the gate with the number g
@@ -257,6 +281,15 @@ passedRefusals b t =
     ∷ 17 when not (onBoard b t)
     ∷ []
 
+-- TERM, order 1 {5; 6 not a pending LPA; 8 it has a term; 21}, for a term from the minute `start` on
+abbrev pub termRefusals : Board → Seven → ℕ → ℕ → List Refusal
+termRefusals b s n start =
+    5 when notLive b n
+    ∷ 6 when notPendingLpa (authority b n)
+    ∷ 8 when hasTerm (authority b n)
+    ∷ 21 when tooSoon s start
+    ∷ []
+
 -- the conditions of a call; `s` has its stamp
 unfoldable pub own : Board → Seven → Call → List Refusal
 own b s NoSuchCall = []
@@ -266,21 +299,22 @@ own b s (Withdraw n officer) = withdrawRefusals b (n .0) officer
 own b s (Agree toa twa officer) = agreeRefusals b (toa .0) (twa .0) officer
 own b s (Block g) = blockRefusals b (g .0)
 own b s (Unblock g) = unblockRefusals b (g .0)
-own b s (Grant n officer) = grantRefusals b (n .0) officer
+own b s (Grant n officer) = grantRefusals b s (n .0) officer
 own b s (Clear n officer) = clearRefusals b (n .0) officer
 own b s (Reoccupy n officer) = reoccupyRefusals b (n .0) officer
 own b s (HandOver n out into) = handOverRefusals b (n .0) out into
 own b s (Fulfil n officer assurances) = fulfilRefusals b (n .0) officer assurances
-own b s (Continue old new officerOld officerNew) = continueRefusals b (old .0) (new .0) officerOld officerNew
+own b s (Continue old new officerOld officerNew) = continueRefusals b s (old .0) (new .0) officerOld officerNew
 own b s (Move t g n officer) = moveRefusals b (t .0) (g .0) (gateAt (b .gates) (g .0)) (n .0) officer
 own b s (Passed t) = passedRefusals b (t .0)
+own b s (Term n day time length) = termRefusals b s (n .0) (minuteOf day time)
 
 -- all conditions of a call; `room` is the length of the buffer for its line
 unfoldable pub conditions : Board → Seven → ℕ → List Refusal
 conditions b s room =
     -- 1 short line: "buffer under 55 bytes"
     1 when ltb room 55
-    -- 2 no such call: "call not 1 to 13"
+    -- 2 no such call: "a number that no call has" (02, order 1)
     ∷ 2 when not (isCall (s .call))
     -- 3 field: "a range above, or an unused field not 0"
     ∷ 3 when not (inRanges (b .portions) (length (b .gates)) s)

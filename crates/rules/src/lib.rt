@@ -38,6 +38,9 @@ pub enum Field {
     Assurances,
     AuthorityOrNone,
     OfficerOrNone,
+    Day,
+    Time,
+    Length,
 }
 
 // The kinds of a call's four fields.
@@ -110,6 +113,12 @@ pub enum Call {
     Passed {
         train: TrainNo,
     },
+    Term {
+        authority: AuthorityNo,
+        day: u16,
+        time: u16,
+        length: u16,
+    },
 }
 
 // A gate: traffic goes from one portion to another; 99 is outside the board.
@@ -119,7 +128,8 @@ pub struct Gate {
     pub kind: u16,
 }
 
-// A live authority. The limits are a set of portions (crate portions); agreed is the TOA whose officer agreed, or 0.
+// A live authority. The limits are a set of portions (crate portions); agreed is the TOA whose officer agreed, or 0; start is the minute in
+// which its term starts and length the term's minutes, both 0 where it has none.
 pub struct Authority {
     pub number: AuthorityNo,
     pub kind: Kind,
@@ -128,6 +138,8 @@ pub struct Authority {
     pub in_force: bool,
     pub workers_on: bool,
     pub agreed: AuthorityNo,
+    pub start: u32,
+    pub length: u16,
 }
 
 // A train on the board: its head and rear portion, and the authority it is with, or 0. The head may be outside, 99.

@@ -1,6 +1,9 @@
 -- `decode::is_in_range` meets its contract: in each arm the field's kind is known, and the definition is then the test.
 -- Assumes nothing.
+use native.Mathlib.Omega.{arith}
+use mathlib.Core.Bool.{and-true}
 use borrow.Author.Needs.{needs}
+use borrow.Author.Tests.{le-leb}
 use Rattle.rules.specs.Call.{inRange}
 use Rattle.decode.proofs.is_in_range.Statement.{statement}
 use Rattle.decode.proofs.is_in_range.Tie as tie
@@ -37,6 +40,21 @@ enum-told-10 c = search needs
 
 enum-told-11 : tie.Need-enum-told-11
 enum-told-11 c = search needs
+
+enum-told-12 : tie.Need-enum-told-12
+enum-told-12 c = search needs
+
+is-day-requires : tie.Need-is-day-requires
+is-day-requires c κs = search needs
+
+enum-told-13 : tie.Need-enum-told-13
+enum-told-13 c = search needs
+
+is-time-requires : tie.Need-is-time-requires
+is-time-requires c κs = search needs
+
+enum-told-14 : tie.Need-enum-told-14
+enum-told-14 c = search needs
 
 returns : tie.Need-returns
 unfolding inRange
@@ -82,6 +100,18 @@ returns-11 : tie.Need-returns-11
 unfolding inRange
 returns-11 c = rw (c .enum-told11 .given .1)
 
+returns-12 : tie.Need-returns-12
+unfolding inRange
+returns-12 c = rw (c .before .enum-told12 .given .1) (c .is-day .ensures)
+
+returns-13 : tie.Need-returns-13
+unfolding inRange
+returns-13 c = rw (c .before .enum-told13 .given .1) (c .is-time .ensures)
+
+returns-14 : tie.Need-returns-14
+unfolding inRange
+returns-14 c = rw (c .enum-told14 .given .1, le-leb (c .before .before .args .value) 65535 (omega arith), and-true)
+
 pub is-in-range-spec : {M : Type 1} → statement M
 is-in-range-spec =
     tie.close
@@ -97,6 +127,11 @@ is-in-range-spec =
     enum-told-9
     enum-told-10
     enum-told-11
+    enum-told-12
+    is-day-requires
+    enum-told-13
+    is-time-requires
+    enum-told-14
     returns
     returns-2
     returns-3
@@ -107,4 +142,7 @@ is-in-range-spec =
     returns-8
     returns-9
     returns-10
-    returns-11)
+    returns-11
+    returns-12
+    returns-13
+    returns-14)

@@ -63,8 +63,12 @@ unfolding named entryOf calls
 returns-13 c = rw (c .match .keys13)
 
 returns-14 : tie.Need-returns-14
+unfolding named entryOf calls
+returns-14 c = rw (c .match .keys14)
+
+returns-15 : tie.Need-returns-15
 unfolding named
-returns-14 c = ap (λ (e : Entry). e .named (c .before .args .s)) (no-entry (c .before .args .s .call) (c .match .rest))
+returns-15 c = ap (λ (e : Entry). e .named (c .before .args .s)) (no-entry (c .before .args .s .call) (c .match .rest))
 
 pub name-spec : {M : Type 1} → statement M
 name-spec =
@@ -84,4 +88,5 @@ name-spec =
     returns-11
     returns-12
     returns-13
-    returns-14)
+    returns-14
+    returns-15)

@@ -88,6 +88,12 @@ enum-known-c-12 c = search needs
 answer-passed-requires : tie.Need-answer-passed-requires
 answer-passed-requires c κs = search needs
 
+enum-known-c-13 : tie.Need-enum-known-c-13
+enum-known-c-13 c = search needs
+
+answer-term-requires : tie.Need-answer-term-requires
+answer-term-requires c κs = search needs
+
 returns : tie.Need-returns
 unfolding own lowest
 returns c = rw (c .enum-told .given .1)
@@ -148,6 +154,10 @@ returns-15 : tie.Need-returns-15
 unfolding own
 returns-15 c = rw (c .before .before .c12 .given .1) (c .answer-passed .ensures)
 
+returns-16 : tie.Need-returns-16
+unfolding own
+returns-16 c = rw (c .before .before .c13 .given .1) (c .answer-term .ensures)
+
 pub answer-of-spec : {M : Type 1} → statement M
 answer-of-spec =
     tie.close
@@ -180,6 +190,8 @@ answer-of-spec =
     answer-move-requires
     enum-known-c-12
     answer-passed-requires
+    enum-known-c-13
+    answer-term-requires
     returns
     returns-2
     returns-3
@@ -194,4 +206,5 @@ answer-of-spec =
     returns-12
     returns-13
     returns-14
-    returns-15)
+    returns-15
+    returns-16)

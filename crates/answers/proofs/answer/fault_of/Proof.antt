@@ -6,14 +6,14 @@ use types.Run.{OneOf, miss}
 use denote.Enum.Declared.{tagOf}
 use borrow.Author.Needs.{needs}
 use Rattle.rules.specs.declared.Call.{Call}
-use Rattle.rules.specs.declared.Call.the-variants.{NoSuchCall, BadField, Request, Withdraw, Agree, Block, Unblock, Grant, Clear, Reoccupy, HandOver, Fulfil, Continue, Move, Passed}
+use Rattle.rules.specs.declared.Call.the-variants.{NoSuchCall, BadField, Request, Withdraw, Agree, Block, Unblock, Grant, Clear, Reoccupy, HandOver, Fulfil, Continue, Move, Passed, Term}
 use Rattle.rules.proofs.Call as enum
 use Rattle.answers.specs.Faults.{faultOf}
 use Rattle.answers.proofs.answer.fault_of.Statement.{statement}
 use Rattle.answers.proofs.answer.fault_of.Tie as tie
 
 abbrev others : List ℕ
-others = 2 ∷ 3 ∷ 4 ∷ 5 ∷ 6 ∷ 7 ∷ 8 ∷ 9 ∷ 10 ∷ 11 ∷ 12 ∷ 13 ∷ 14 ∷ []
+others = 2 ∷ 3 ∷ 4 ∷ 5 ∷ 6 ∷ 7 ∷ 8 ∷ 9 ∷ 10 ∷ 11 ∷ 12 ∷ 13 ∷ 14 ∷ 15 ∷ []
 
 enum-told : tie.Need-enum-told
 enum-told c = search needs
@@ -21,7 +21,7 @@ enum-told c = search needs
 enum-told-2 : tie.Need-enum-told-2
 enum-told-2 c = search needs
 
--- the arm `_`: the tag is one of the other thirteen
+-- the arm `_`: the tag is one of the others
 rest : (x : Call) → OneOf others (tagOf enum.the-type x) → 0 ≡ faultOf x
 unfolding faultOf
 rest NoSuchCall h = absurd (miss others 0 tt h)
@@ -39,6 +39,7 @@ rest (Fulfil n officer assurances) h = refl
 rest (Continue old new officerOld officerNew) h = refl
 rest (Move t g n officer) h = refl
 rest (Passed t) h = refl
+rest (Term n day time length) h = refl
 
 returns : tie.Need-returns
 unfolding faultOf

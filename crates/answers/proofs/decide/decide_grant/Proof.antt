@@ -28,8 +28,14 @@ is-overlapping-requires c κs = search needs
 returns-5 : tie.Need-returns-5
 returns-5 c = search refusals depth 8 fits 5000
 
+is-outside-term-requires : tie.Need-is-outside-term-requires
+is-outside-term-requires c κs = search needs
+
 returns-6 : tie.Need-returns-6
-returns-6 c = search refusals depth 8 fits 5000
+returns-6 c = search refusals depth 9 fits 20000
+
+returns-7 : tie.Need-returns-7
+returns-7 c = search refusals depth 9 fits 20000
 
 pub decide-grant-spec : {M : Type 1} → statement M
 decide-grant-spec =
@@ -43,4 +49,6 @@ decide-grant-spec =
     returns-4
     is-overlapping-requires
     returns-5
-    returns-6)
+    is-outside-term-requires
+    returns-6
+    returns-7)

@@ -94,6 +94,12 @@ enum-known-c-13 c = search needs
 passed-requires : tie.Need-passed-requires
 passed-requires c κs = search needs
 
+enum-known-c-14 : tie.Need-enum-known-c-14
+enum-known-c-14 c = search needs
+
+term-requires : tie.Need-term-requires
+term-requires c κs = search needs
+
 returns : tie.Need-returns
 unfolding effect
 returns c = record { board = rw (c .enum-told .given .1); bounds = bounds-in _ _ _ _ (c .before .before .pre .0) }
@@ -141,6 +147,9 @@ returns-14 c = rw (c .before .before .before .before .c12 .given .1) (c .move-tr
 returns-15 : tie.Need-returns-15
 returns-15 c = rw (c .before .before .before .before .c13 .given .1) (c .passed .ensures)
 
+returns-16 : tie.Need-returns-16
+returns-16 c = rw (c .before .before .before .before .c14 .given .1) (c .term .ensures)
+
 pub effect-of-spec : {M : Type 1} → statement M
 effect-of-spec =
     tie.close
@@ -173,6 +182,8 @@ effect-of-spec =
     move-train-requires
     enum-known-c-13
     passed-requires
+    enum-known-c-14
+    term-requires
     returns
     returns-2
     returns-3
@@ -187,4 +198,5 @@ effect-of-spec =
     returns-12
     returns-13
     returns-14
-    returns-15)
+    returns-15
+    returns-16)

@@ -16,6 +16,9 @@ enum-known-c-2 c = search needs
 enum-known-c-3 : tie.Need-enum-known-c-3
 enum-known-c-3 c = search needs
 
+enum-known-c-4 : tie.Need-enum-known-c-4
+enum-known-c-4 c = search needs
+
 returns : tie.Need-returns
 unfolding changeOf
 returns c = rw (c .enum-told .given .1)
@@ -32,6 +35,10 @@ returns-4 : tie.Need-returns-4
 unfolding changeOf
 returns-4 c = rw (c .before .c3 .given .1)
 
+returns-5 : tie.Need-returns-5
+unfolding changeOf
+returns-5 c = rw (c .before .c4 .given .1)
+
 pub changed-spec : {M : Type 1} → statement M
 changed-spec =
     tie.close
@@ -40,7 +47,9 @@ changed-spec =
     enum-known-c
     enum-known-c-2
     enum-known-c-3
+    enum-known-c-4
     returns
     returns-2
     returns-3
-    returns-4)
+    returns-4
+    returns-5)

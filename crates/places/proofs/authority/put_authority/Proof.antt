@@ -1,5 +1,5 @@
--- `places::authority::put_authority` meets its contract: seven numbers stored in a group of eight. Assumes nothing.
-use Prim.Native.Nat.{ℕ, _<_}
+-- `places::authority::put_authority` meets its contract: a group of eight numbers stored. Assumes nothing.
+use Prim.Native.Nat.{ℕ, _+_, _*_, _/_, _%_, _<_}
 use native.Mathlib.Nat.{mod-eq-of-lt}
 use native.Mathlib.Omega.{arith}
 use mathlib.Core.Path.{_≡_, refl}
@@ -23,6 +23,7 @@ use Rattle.places.proofs.authority.put_authority.Reads as reads
 use Rattle.places.proofs.authority.put_authority.Lts as lts
 use Rattle.places.proofs.authority.flag.Reads as flag-reads
 use Rattle.places.proofs.authority.kind_no.Reads as kind-no-reads
+use Rattle.places.proofs.authority.term_no.Reads as term-no-reads
 use Rattle.places.proofs.authority.wide.Reads as wide-reads
 
 -- what is required, and the length of the array
@@ -31,24 +32,34 @@ Pre = sized (rtF (fInt w64)) 256 (drop 1 lts.ps) reads.Pre
 
 -- the contracts of the functions called
 abbrev claims : lts.Claims
-claims = (wide-reads.Asked, wide-reads.Learnt, kind-no-reads.Asked, kind-no-reads.Learnt, flag-reads.Asked, flag-reads.Learnt)
+claims = (wide-reads.Asked, wide-reads.Learnt, kind-no-reads.Asked, kind-no-reads.Learnt, flag-reads.Asked, flag-reads.Learnt, term-no-reads.Asked, term-no-reads.Learnt)
 
 -- a flag as a number
 flag-number : (b : Bool) → eqb (cond b 1 0) 1 ≡ b
 flag-number true = refl
 flag-number false = refl
 
--- the seven numbers of an authority
+-- the eight numbers of an authority
 numbers : Authority → List ℕ
-numbers x = x .number .0 ∷ kindNo (x .kind) ∷ x .limits ∷ x .officer ∷ cond (x .«in_force») 1 0 ∷ cond (x .«workers_on») 1 0 ∷ x .agreed .0 ∷ []
+numbers x = x .number .0 ∷ kindNo (x .kind) ∷ x .limits ∷ x .officer ∷ cond (x .«in_force») 1 0 ∷ cond (x .«workers_on») 1 0 ∷ x .agreed .0 ∷ (x .start * 65536 + x .length) ∷ []
 
-stand-for : (x : Authority) → x .number .0 < 65536 → x .officer < 65536 → x .agreed .0 < 65536 → (rest : List ℕ) → authorityFrom (numbers x ++ rest) ≡ x
+-- the two parts of a term's number
+term-start : (start length : ℕ) → start < 4294967296 → length < 65536 → (start * 65536 + length) / 65536 % 4294967296 ≡ start
+term-start start length s l = omega arith
+
+term-length : (start length : ℕ) → length < 65536 → (start * 65536 + length) % 65536 ≡ length
+term-length start length l = omega arith
+
+stand-for : (x : Authority) → x .number .0 < 65536 → x .officer < 65536 → x .agreed .0 < 65536 → x .start < 4294967296 → x .length < 65536
+    → (rest : List ℕ) → authorityFrom (numbers x ++ rest) ≡ x
 unfolding authorityFrom numbers
-stand-for x n o a rest =
+stand-for x n o a s l rest =
     rw (
       mod-eq-of-lt n,
       mod-eq-of-lt o,
       mod-eq-of-lt a,
+      term-start (x .start) (x .length) s l,
+      term-length (x .start) (x .length) l,
       kind-number (x .kind),
       flag-number (x .«in_force»),
       flag-number (x .«workers_on»),
@@ -135,29 +146,42 @@ mul-authorities-7 c = search needs
 element-write-authorities-7 : lts.Need-element-write-authorities-7 claims Pre reads.Post
 element-write-authorities-7 c = search needs
 
+term-no-requires : lts.Need-term-no-requires claims Pre reads.Post
+term-no-requires c κs = search needs
+
+add-authorities-7 : lts.Need-add-authorities-7 claims Pre reads.Post
+add-authorities-7 c = search needs
+
+mul-authorities-8 : lts.Need-mul-authorities-8 claims Pre reads.Post
+mul-authorities-8 c = search needs
+
+element-write-authorities-8 : lts.Need-element-write-authorities-8 claims Pre reads.Post
+element-write-authorities-8 c = search needs
+
 returns : lts.Need-returns claims Pre reads.Post
 unfolding authoritiesIn stores numbers
 returns c =
-    let s = c .before .before .before .before .before .before in
+    let s = c .before .before .before .before .before .before .before in
     let x = s .args .x in
     rw (
-      c .before .before .before .before .before .wide .ensures,
-      c .before .before .before .before .kind-no .ensures,
-      c .before .before .before .wide2 .ensures,
-      c .before .before .flag .ensures,
-      c .before .flag2 .ensures,
-      c .wide3 .ensures,
+      c .before .before .before .before .before .before .wide .ensures,
+      c .before .before .before .before .before .kind-no .ensures,
+      c .before .before .before .before .wide2 .ensures,
+      c .before .before .before .flag .ensures,
+      c .before .before .flag2 .ensures,
+      c .before .wide3 .ensures,
+      c .term-no .ensures,
     )
     (place-stored authorityFrom 8 32 (s .args .i) (s .args .authorities .now) (omega arith) (omega arith) (numbers x) x (omega arith)
-    (stand-for x (omega arith) (omega arith) (omega arith)))
+    (stand-for x (omega arith) (omega arith) (omega arith) (omega arith) (omega arith)))
 
 pub put-authority-spec : {M : Type 1} → statement M
 put-authority-spec =
     tie.close
-    (λ 𝓤 H A W 𝓣 k₀ k₁ k₂.
+    (λ 𝓤 H A W 𝓣 k₀ k₁ k₂ k₃.
     t-fn-lent 𝓤 H A W (rtF (fInt w64)) 256 (drop 1 lts.ps) lts.r lts.xs lts.m lts.hs lts.body 𝓣
     (λ κs qs bs. lts.Φ claims Pre reads.Post)
-    (λ κs qs. lts.typed claims Pre reads.Post κs qs 𝓤 H A W 𝓣 (k₀, k₁, k₂))
+    (λ κs qs. lts.typed claims Pre reads.Post κs qs 𝓤 H A W 𝓣 (k₀, k₁, k₂, k₃))
     reads.Pre reads.Post
     (lts.asked claims Pre reads.Post
     mul-at
@@ -187,4 +211,8 @@ put-authority-spec =
     add-authorities-6
     mul-authorities-7
     element-write-authorities-7
+    term-no-requires
+    add-authorities-7
+    mul-authorities-8
+    element-write-authorities-8
     returns))
