@@ -5,7 +5,8 @@
 //!
 //! Kinds: steered, numbers, damaged, short, wild, busy N. The generator looks
 //! at the reference's board, which it uses as a module, to steer towards calls
-//! that are accepted or refused for a wanted reason.
+//! that are accepted or refused for a wanted reason. The clock goes on by a
+//! few minutes a call, and sometimes by about a week to the term of an LPA.
 //!
 //! Build: rustc -O generate.rs
 
@@ -15,7 +16,7 @@ mod reference;
 
 use reference::{
     write_number, Authority, AuthorityNumber, Board, Gate, GateNumber, Kind, Place, Portions, Site, Stamp, Train,
-    CALL_LINE, COLUMNS, LAST_NUMBER, MOST_LIVE, OUTSIDE, PLAN_LINE,
+    CALL_LINE, COLUMNS, DAY, LAST_NUMBER, MOST_LIVE, NOTICE, OUTSIDE, PLAN_LINE,
 };
 use std::fs::{self, File};
 use std::io::{self, BufWriter, Write};
@@ -263,11 +264,15 @@ enum Role {
     /// may be 0
     Pilot,
     PilotOfficer,
+    StartDay,
+    StartTime,
+    Length,
     Unused,
 }
 
 fn roles(call: u16) -> [Role; 4] {
     use self::Role::{Assurances, First, Gate, Kind, Last, Officer, Pilot, PilotOfficer, Train, Unused};
+    use self::Role::{Length, StartDay, StartTime};
     const A: Role = Role::Authority;
     match call {
         1 => [Kind, First, Last, Officer],
@@ -278,11 +283,13 @@ fn roles(call: u16) -> [Role; 4] {
         11 => [A, A, Officer, Officer],
         12 => [Train, Gate, Pilot, PilotOfficer],
         13 => [Train, Unused, Unused, Unused],
+        14 => [A, StartDay, StartTime, Length],
         _ => [A, Officer, Unused, Unused],
     }
 }
 
-/// The answers that 01's braces allow, and 3 and 4; 0 is left out.
+/// The answers that 01's braces and order 1 allow, and 3 and 4; 0 is left out.
+/// One that stands twice is wanted twice as often.
 fn refusals(call: u16) -> &'static [u16] {
     match call {
         1 => &[3, 4, 9],
@@ -290,14 +297,15 @@ fn refusals(call: u16) -> &'static [u16] {
         3 => &[3, 4, 5, 6, 7, 8],
         4 => &[3, 4, 8, 10],
         5 => &[3, 4, 8, 16],
-        6 => &[3, 4, 5, 6, 7, 11, 12, 13],
+        6 => &[3, 4, 5, 6, 7, 11, 12, 13, 22, 22],
         7 => &[3, 4, 5, 6, 7, 8],
         8 => &[3, 4, 5, 6, 7, 8, 12],
         9 => &[3, 4, 5, 7, 8],
         10 => &[3, 4, 5, 6, 7, 14, 15],
-        11 => &[3, 4, 5, 6, 7, 11, 12, 13],
+        11 => &[3, 4, 5, 6, 7, 11, 12, 13, 22, 22],
         12 => &[3, 4, 9, 12, 14, 17, 18, 19],
         13 => &[3, 4, 8, 17],
+        14 => &[3, 4, 5, 6, 8, 21, 21],
         _ => &[2],
     }
 }
@@ -306,19 +314,21 @@ fn refusals(call: u16) -> &'static [u16] {
 // Steering
 // ---------------------------------------------------------------------------
 
-/// Weights of the calls 1 to 13.
-type Mood = [usize; 13];
+/// Weights of the calls 1 to 14.
+type Mood = [usize; 14];
 
-const BUILD: Mood = [14, 2, 8, 22, 3, 20, 5, 3, 3, 2, 6, 8, 4];
-const TRAFFIC: Mood = [4, 1, 3, 5, 6, 5, 8, 6, 3, 2, 4, 35, 20];
-const WIND_DOWN: Mood = [3, 8, 3, 3, 20, 4, 14, 3, 4, 20, 10, 8, 12];
-const FILL: Mood = [70, 1, 3, 6, 1, 6, 2, 2, 2, 1, 1, 4, 2];
-const CROWD: Mood = [2, 1, 1, 2, 1, 3, 2, 2, 1, 1, 2, 70, 3];
-const DRAIN: Mood = [2, 1, 1, 2, 8, 2, 6, 2, 2, 2, 2, 40, 30];
-const EVEN: Mood = [8, 8, 8, 8, 8, 8, 8, 8, 8, 8, 8, 8, 8];
-const RENEW: Mood = [16, 2, 3, 14, 2, 6, 5, 3, 3, 2, 24, 20, 3];
-const WORKSITE: Mood = [10, 2, 14, 12, 2, 14, 12, 16, 3, 2, 6, 24, 8];
-const MOODS: [&Mood; 9] = [&BUILD, &TRAFFIC, &WIND_DOWN, &FILL, &CROWD, &DRAIN, &EVEN, &RENEW, &WORKSITE];
+const BUILD: Mood = [14, 2, 8, 22, 3, 20, 5, 3, 3, 2, 6, 8, 4, 8];
+const TRAFFIC: Mood = [4, 1, 3, 5, 6, 5, 8, 6, 3, 2, 4, 35, 20, 3];
+const WIND_DOWN: Mood = [3, 8, 3, 3, 20, 4, 14, 3, 4, 20, 10, 8, 12, 3];
+const FILL: Mood = [70, 1, 3, 6, 1, 6, 2, 2, 2, 1, 1, 4, 2, 5];
+const CROWD: Mood = [2, 1, 1, 2, 1, 3, 2, 2, 1, 1, 2, 70, 3, 2];
+const DRAIN: Mood = [2, 1, 1, 2, 8, 2, 6, 2, 2, 2, 2, 40, 30, 2];
+const EVEN: Mood = [8, 8, 8, 8, 8, 8, 8, 8, 8, 8, 8, 8, 8, 8];
+const RENEW: Mood = [16, 2, 3, 14, 2, 6, 5, 3, 3, 2, 24, 20, 3, 8];
+const WORKSITE: Mood = [10, 2, 14, 12, 2, 14, 12, 16, 3, 2, 6, 24, 8, 4];
+const POSSESSION: Mood = [16, 4, 2, 14, 3, 22, 8, 3, 3, 6, 16, 8, 3, 22];
+const MOODS: [&Mood; 10] =
+    [&BUILD, &TRAFFIC, &WIND_DOWN, &FILL, &CROWD, &DRAIN, &EVEN, &RENEW, &WORKSITE, &POSSESSION];
 
 struct Driver {
     rng: Rng,
@@ -330,6 +340,30 @@ struct Driver {
     pace: usize,
     /// whether stamps may jump to the next day or further
     leaps: bool,
+    /// the day that the clock may reach by now, so that days are left to the
+    /// end of the list
+    ration: u16,
+    /// the call that is to come next, if that is settled already
+    next: Option<[u16; 7]>,
+}
+
+/// The minutes that the clock may still reach now, both ends included.
+#[derive(Clone, Copy)]
+struct Reach {
+    now: u32,
+    limit: u32,
+}
+
+impl Reach {
+    fn holds(self, minute: u32) -> bool {
+        self.now <= minute && minute <= self.limit
+    }
+
+    /// Whether 22 can still be avoided.
+    fn serves(self, one: &Authority) -> bool {
+        let comes = |start: u32, length: u16| start <= self.limit && self.now < start + u32::from(length);
+        one.kind != Kind::Lpa || one.term.is_some_and(|term| comes(term.start, term.length))
+    }
 }
 
 impl Driver {
@@ -339,7 +373,7 @@ impl Driver {
         officers.extend([1, 999]);
         let mut train_pool: Vec<u16> = (1..=34 + rng.between(0, 6)).collect();
         train_pool.extend([64, 99, 9998, 9999]);
-        Driver { rng, board, officers, train_pool, mood: EVEN, pace: 2000, leaps: true }
+        Driver { rng, board, officers, train_pool, mood: EVEN, pace: 2000, leaps: true, ration: 9999, next: None }
     }
 
     fn answer(&self, numbers: &[u16; 7]) -> u16 {
@@ -357,9 +391,27 @@ impl Driver {
                     let time = self.rng.between(0, 23) * 100 + self.rng.between(0, 59);
                     return Stamp { day: last.day + 1, time: self.rng.pick(&[0, 1, time]) };
                 }
-                7 => return Stamp { day: last.day + self.rng.between(0, (9999 - last.day).min(300)), time: 2359 },
+                7 if last.day < self.ration => {
+                    let most = (self.ration - last.day).min(300);
+                    return Stamp { day: last.day + self.rng.between(0, most), time: 2359 };
+                }
+                8..=10 => {
+                    // to the ends of a term, or just outside it
+                    let reach = self.reach();
+                    let waiting = self.pick_live(|one| is_pending_lpa(one) && reach.serves(one));
+                    if let Some(term) = waiting.and_then(|one| one.term) {
+                        let end = term.start + u32::from(term.length);
+                        let minute = self.rng.pick(&[term.start - 1, term.start, end - 1, end]);
+                        if reach.holds(minute) {
+                            return stamp_of(minute);
+                        }
+                    }
+                }
                 _ => {}
             }
+        }
+        if last.day > self.ration {
+            return last;
         }
         let thousandths = self.rng.below(2 * self.pace + 1);
         let more = thousandths / 1000 + usize::from(self.rng.below(1000) < thousandths % 1000);
@@ -390,6 +442,35 @@ impl Driver {
             Stamp { day: self.rng.pick(&[day - 1, day - 1, 0]), time: last_of_day }
         } else {
             Stamp { day, time }
+        }
+    }
+
+    fn reach(&self) -> Reach {
+        let now = self.board.last_stamp.minute();
+        let limit = if self.leaps { u32::from(self.ration) * DAY + DAY - 1 } else { now + 10 };
+        Reach { now, limit }
+    }
+
+    /// GRANT and CONTINUE look at the term of the LPA that is to come into
+    /// force: a stamp in it or just outside it, if the clock may go there.
+    fn term_stamp(&mut self, authority: u16, want: u16, stamp: Stamp) -> Stamp {
+        let this = self.board.live.iter().find(|one| one.number.0 == authority);
+        let Some(term) = this.and_then(|one| one.term) else {
+            return stamp;
+        };
+        let (start, end) = (term.start, term.start + u32::from(term.length));
+        let inside = start + self.rng.below(usize::from(term.length.min(1500))) as u32;
+        let wanted = match want {
+            0 if term.holds(stamp.minute()) && self.rng.chance(60) => return stamp,
+            0 => self.rng.pick(&[start, start, start, inside, end - 1]),
+            22 if self.rng.chance(70) => self.rng.pick(&[start - 1, start - 1, end, end, end + 1]),
+            _ if self.rng.chance(40) => self.rng.pick(&[start, inside, end - 1]),
+            _ => return stamp,
+        };
+        if self.reach().holds(wanted) {
+            stamp_of(wanted)
+        } else {
+            stamp
         }
     }
 
@@ -471,7 +552,9 @@ impl Driver {
 
     // ----- fields that are likely to be accepted -----
 
-    fn good_fields(&mut self, call: u16) -> [u16; 4] {
+    /// For GRANT and CONTINUE to be refused with 22 the LPA may be outside its
+    /// term; TERM looks at the stamp.
+    fn good_fields(&mut self, call: u16, want: u16, stamp: Stamp) -> [u16; 4] {
         match call {
             1 => self.good_request(),
             2 => self.two(|one| one.is_pending()),
@@ -484,7 +567,7 @@ impl Driver {
                 let gate = self.pick_gate(free).unwrap_or_else(|| self.any_gate());
                 [gate, 0, 0, 0]
             }
-            6 => self.good_grant(),
+            6 => self.good_grant(want),
             7 => self.two(|one| one.is_in_force() && one.site == Site::WorkersOn),
             8 => self.two(|one| one.is_in_force() && one.site == Site::Clear),
             9 => {
@@ -495,13 +578,14 @@ impl Driver {
                 let [authority, officer, _, _] = self.two(|one| one.is_in_force() && one.site == Site::Clear);
                 [authority, officer, 7, 0]
             }
-            11 => self.good_continue(),
+            11 => self.good_continue(want),
             12 => self.good_move(),
             13 => {
                 let wanted = |train: &Train| train.head != train.rear;
                 let train = self.rng.first_fit(&self.board.trains, wanted);
                 [train.map_or_else(|| self.any_train(), |train| train.number.0), 0, 0, 0]
             }
+            14 => self.good_term(stamp),
             _ => [self.any(Role::Authority), self.any_officer(), 0, 0],
         }
     }
@@ -521,7 +605,11 @@ impl Driver {
 
     fn good_request(&mut self) -> [u16; 4] {
         let most = self.board.portions - 1;
-        let kind = self.rng.pick(&[1, 1, 2, 2, 2, 3, 3, 3]);
+        let kind = if self.mood == POSSESSION {
+            self.rng.pick(&[1, 1, 1, 2, 3])
+        } else {
+            self.rng.pick(&[1, 1, 1, 2, 2, 2, 3, 3, 3])
+        };
         let near = match self.rng.below(8) {
             // a TWA wants a TOA to agree, another something to continue
             0..=2 if kind == 3 => self.pick_live(|one| one.is_in_force() && one.kind == Kind::Toa),
@@ -580,12 +668,14 @@ impl Driver {
         [gate.or_else(|| self.pick_gate(free)).unwrap_or_else(|| self.any_gate()), 0, 0, 0]
     }
 
-    fn good_grant(&mut self) -> [u16; 4] {
+    fn good_grant(&mut self, want: u16) -> [u16; 4] {
         let blocked = self.board.blocked;
+        let reach = self.reach();
         let trains = self.board.trains.clone();
         let live = self.board.live.clone();
         let likely = |this: &Authority| {
             this.is_pending()
+                && (if want == 22 { this.kind == Kind::Lpa } else { reach.serves(this) })
                 && this.needs.all_in(blocked)
                 && !trains.iter().any(|train| train.touches(this.limits))
                 && !live.iter().any(|that| {
@@ -598,8 +688,9 @@ impl Driver {
         }
     }
 
-    fn good_continue(&mut self) -> [u16; 4] {
+    fn good_continue(&mut self, want: u16) -> [u16; 4] {
         let blocked = self.board.blocked;
+        let reach = self.reach();
         let with = self.rng.first_fit(&self.board.trains, |train| train.with.is_some()).and_then(|train| train.with);
         let old = match with {
             Some(number) if self.rng.chance(60) => self.pick_live(|one| one.number == number),
@@ -609,7 +700,11 @@ impl Driver {
         let Some(old) = old else {
             return [self.dead_number(), self.dead_number(), self.any_officer(), self.any_officer()];
         };
-        let right = |one: &Authority| one.is_pending() && one.needs.all_in(blocked);
+        let right = |one: &Authority| {
+            one.is_pending()
+                && (if want == 22 { one.kind == Kind::Lpa } else { reach.serves(one) })
+                && one.needs.all_in(blocked)
+        };
         let near = |one: &Authority| right(one) && one.limits.share(old.limits);
         let new = if self.rng.chance(80) { self.pick_live(near) } else { None };
         let new = new
@@ -668,9 +763,49 @@ impl Driver {
         [train, gate, authority, officer]
     }
 
+    fn good_term(&mut self, stamp: Stamp) -> [u16; 4] {
+        let [authority, ..] = self.two(|one| is_pending_lpa(one) && one.term.is_none());
+        let start = self.good_start(stamp);
+        [authority, start.day, start.time, self.any(Role::Length)]
+    }
+
+    /// A start at least 10,080 minutes after the call, if there is any: that
+    /// minute or one after it, a midnight, a day or more later, day 9999.
+    fn good_start(&mut self, stamp: Stamp) -> Stamp {
+        let least = stamp.minute() + NOTICE;
+        let midnight = least.next_multiple_of(DAY);
+        let time = self.rng.between(0, 23) * 100 + self.rng.between(0, 59);
+        if stamp.day >= 9900 && self.rng.chance(60) {
+            return Stamp { day: 9999, time: self.rng.pick(&[0, 2358, 2359, 2359, time]) };
+        }
+        match self.rng.below(50) {
+            0..=19 => stamp_of(least),
+            20..=24 => stamp_of(least + 1),
+            25..=29 => stamp_of(midnight),
+            30..=33 => stamp_of(midnight + DAY - 1),
+            34 => Stamp { day: 9999, time },
+            _ => stamp_of(least + self.rng.below(3 * DAY as usize) as u32),
+        }
+    }
+
+    /// A start before the call or less than 10,080 minutes after it.
+    fn short_start(&mut self, stamp: Stamp) -> Stamp {
+        let now = stamp.minute();
+        let below = self.rng.below(NOTICE as usize) as u32;
+        stamp_of(match self.rng.below(10) {
+            0..=3 => now + NOTICE - 1,
+            4 => now + NOTICE - self.rng.pick(&[2, 60, DAY]),
+            5 => now + below,
+            6 => now,
+            7 => now.saturating_sub(1),
+            8 => now.saturating_sub(below),
+            _ => self.rng.below(now as usize + 1) as u32,
+        })
+    }
+
     // ----- fields taken anywhere, with the officer that belongs to them -----
 
-    fn loose_fields(&mut self, call: u16) -> [u16; 4] {
+    fn loose_fields(&mut self, call: u16, stamp: Stamp) -> [u16; 4] {
         match call {
             3 | 11 => {
                 let [one, officer, _, _] = self.two(|_| true);
@@ -692,6 +827,11 @@ impl Driver {
                 [self.any_train(), gate, authority, officer]
             }
             13 => [self.any_train(), 0, 0, 0],
+            14 => {
+                let [authority, ..] = self.two(|_| true);
+                let start = if self.rng.chance(50) { self.good_start(stamp) } else { self.short_start(stamp) };
+                [authority, start.day, start.time, self.any(Role::Length)]
+            }
             1 => self.good_request(),
             _ => self.two(|_| true),
         }
@@ -738,6 +878,23 @@ impl Driver {
                 self.rng.pick(&[any, any, any, 1, 9999, authority])
             }
             Role::Assurances => self.rng.between(0, 7),
+            Role::StartDay => {
+                let week = (self.board.last_stamp.day + 7).min(9999);
+                let any = self.rng.between(0, 9999);
+                self.rng.pick(&[week, week, (week + 1).min(9999), any, 9999])
+            }
+            Role::StartTime => {
+                let last = self.board.last_stamp.time;
+                let any = self.rng.between(0, 23) * 100 + self.rng.between(0, 59);
+                self.rng.pick(&[0, 2359, last, any, any])
+            }
+            Role::Length => {
+                // a board whose clock doesn't jump needs longer terms
+                let least = if self.leaps { 1 } else { 3 * DAY as u16 };
+                let days = self.rng.between(least, 5 * DAY as u16);
+                let any = self.rng.between(least, 65535);
+                self.rng.pick(&[least, least + 1, 8 * 60 + least, days, days, any, 65535])
+            }
             Role::Unused => 0,
         }
     }
@@ -754,6 +911,9 @@ impl Driver {
             Role::Pilot => self.rng.pick(&[10000, 10000, 10001, 65535]),
             Role::Gate => self.rng.pick(&[gates, gates, gates + 1, 64.max(gates), 99, 256, 65535]),
             Role::Assurances => self.rng.pick(&[8, 8, 9, 15, 263, 65535]),
+            Role::StartDay => self.rng.pick(&[10000, 10000, 10001, 65535]),
+            Role::StartTime => self.rng.pick(&[2400, 2360, 2399, 1260, 60, 99, 2401, 9999, 65535]),
+            Role::Length => 0,
             Role::Unused => self.rng.pick(&[1, 1, 2, 7, 256, 65535]),
         }
     }
@@ -763,8 +923,9 @@ impl Driver {
     /// A call that may well be answered with `want`.
     fn candidate(&mut self, call: u16, want: u16) -> [u16; 7] {
         let roles = roles(call);
-        let mut fields = if want == 0 || self.rng.chance(50) { self.good_fields(call) } else { self.loose_fields(call) };
         let mut stamp = self.stamp();
+        let good = want == 0 || want == 22 || self.rng.chance(50);
+        let mut fields = if good { self.good_fields(call, want, stamp) } else { self.loose_fields(call, stamp) };
         // Anything more that is wrong must not change the answer if it is the
         // lowest number that counts.
         let more = match want {
@@ -803,7 +964,26 @@ impl Driver {
                 };
                 fields[at] = self.other_officer(fields[at]);
             }
+            6 if call == 14 => fields[0] = self.two(|one| !is_pending_lpa(one))[0],
+            8 if call == 14 => fields[0] = self.two(|one| is_pending_lpa(one) && one.term.is_some())[0],
             8 if call == 9 => fields[2] = fields[1],
+            11 => {
+                // one that still needs a gate, for GRANT or as the new one
+                let blocked = self.board.blocked;
+                if let Some(one) = self.pick_live(|one| one.is_pending() && !one.needs.all_in(blocked)) {
+                    let at = usize::from(call == 11);
+                    (fields[at], fields[2 * at + 1]) = (one.number.0, one.officer);
+                }
+            }
+            12 if call == 8 => {
+                let trains = self.board.trains.clone();
+                let touched = |one: &Authority| trains.iter().any(|train| train.touches(one.limits));
+                fields = self.two(|one| one.is_in_force() && one.kind == Kind::Twa && touched(one));
+            }
+            14 if call == 10 => {
+                let [authority, officer, _, _] = self.two(|one| one.is_in_force() && one.site == Site::WorkersOn);
+                fields = [authority, officer, self.rng.between(0, 7), 0];
+            }
             15 => {
                 let [authority, officer, _, _] = self.two(|one| one.is_in_force() && one.site == Site::Clear);
                 fields = [authority, officer, self.rng.between(0, 7), 0];
@@ -835,14 +1015,24 @@ impl Driver {
                 fields[2] = self.pick_live(|one| one.number == toa).map_or(1, |one| one.officer);
             }
         }
+        if want == 21 {
+            fields = self.good_term(stamp);
+        }
+        if want == 21 || (call == 14 && want != 0 && self.rng.chance(30)) {
+            let start = self.short_start(stamp);
+            (fields[1], fields[2]) = (start.day, start.time);
+        }
+        if (call == 6 || call == 11) && want != 3 && want != 4 {
+            stamp = self.term_stamp(fields[usize::from(call == 11)], want, stamp);
+        }
         [stamp.day, stamp.time, call, fields[0], fields[1], fields[2], fields[3]]
     }
 
     /// Several things wrong at once, whatever the answer may be.
     fn muddled(&mut self, call: u16) -> [u16; 7] {
         let roles = roles(call);
-        let mut fields = if self.rng.chance(50) { self.good_fields(call) } else { self.loose_fields(call) };
         let mut stamp = self.stamp();
+        let mut fields = if self.rng.chance(50) { self.good_fields(call, 0, stamp) } else { self.loose_fields(call, stamp) };
         for _ in 0..1 + self.rng.below(3) {
             let at = self.rng.below(4);
             fields[at] = if self.rng.chance(10) { self.out_of_range(roles[at]) } else { self.any(roles[at]) };
@@ -856,13 +1046,43 @@ impl Driver {
     }
 
     fn no_such_call(&mut self) -> [u16; 7] {
-        let like = self.rng.between(1, 13);
+        let like = self.rng.between(1, 14);
         let mut numbers = self.muddled(like);
-        numbers[2] = self.rng.pick(&[0, 0, 14, 14, 15, 16, 99, 256 + like, 65535]);
+        numbers[2] = self.rng.pick(&[0, 0, 15, 15, 16, 17, 99, 256 + like, 65535]);
         numbers
     }
 
+    /// The call, or first the same in the minute before or after the term of
+    /// the LPA that it would put in force.
+    fn settled(&mut self, numbers: [u16; 7]) -> [u16; 7] {
+        if self.rng.chance(40) {
+            if let Some(outside) = self.just_outside(&numbers) {
+                self.next = Some(numbers);
+                return outside;
+            }
+        }
+        numbers
+    }
+
+    /// A GRANT or CONTINUE to an LPA that has a term, put just outside it.
+    fn just_outside(&mut self, numbers: &[u16; 7]) -> Option<[u16; 7]> {
+        let authority = match numbers[2] {
+            6 => numbers[3],
+            11 => numbers[4],
+            _ => return None,
+        };
+        let term = self.board.live.iter().find(|one| one.number.0 == authority)?.term?;
+        let now = self.board.last_stamp.minute();
+        let before = (now < term.start && self.rng.chance(60)).then(|| term.start - 1);
+        let stamp = stamp_of(before.unwrap_or(term.start + u32::from(term.length)));
+        let [.., call, a, b, c, d] = *numbers;
+        Some([stamp.day, stamp.time, call, a, b, c, d])
+    }
+
     fn next_call(&mut self) -> [u16; 7] {
+        if let Some(numbers) = self.next.take() {
+            return numbers;
+        }
         if self.rng.chance(1) {
             return self.no_such_call();
         }
@@ -875,7 +1095,7 @@ impl Driver {
         let mut numbers = self.candidate(call, want);
         for _ in 0..12 {
             if self.answer(&numbers) == want {
-                return numbers;
+                return if want == 0 { self.settled(numbers) } else { numbers };
             }
             numbers = self.candidate(call, want);
         }
@@ -883,10 +1103,10 @@ impl Driver {
         if self.rng.chance(75) {
             for _ in 0..6 {
                 let full = self.board.live.len() == MOST_LIVE;
-                let help = self.rng.pick(&[6, 6, 4, 4, 13, 12, 12, if full { 2 } else { 1 }]);
+                let help = self.rng.pick(&[6, 6, 4, 4, 13, 12, 12, 14, if full { 2 } else { 1 }]);
                 let other = self.candidate(help, 0);
                 if self.answer(&other) == 0 {
-                    return other;
+                    return self.settled(other);
                 }
             }
         }
@@ -900,6 +1120,7 @@ impl Driver {
     /// A list of steered calls, in phases of different moods.
     fn steer(&mut self, count: usize, list: &mut Vec<[u16; 7]>) {
         let end = list.len() + count;
+        let first_day = self.board.last_stamp.day;
         self.mood = BUILD;
         let mut phase = 20 + self.rng.below(80);
         while list.len() < end {
@@ -909,11 +1130,17 @@ impl Driver {
                 phase = 20 + self.rng.below(130);
             }
             phase -= 1;
+            let left = (end - list.len()) * usize::from(9999 - first_day) / count;
+            self.ration = (9999 - left as u16 + 60).min(9999);
             let numbers = self.next_call();
             self.apply(&numbers);
             list.push(numbers);
         }
     }
+}
+
+fn is_pending_lpa(one: &Authority) -> bool {
+    one.is_pending() && one.kind == Kind::Lpa
 }
 
 /// The first and the last portion of limits.
@@ -922,12 +1149,16 @@ fn ends(limits: Portions) -> (u16, u16) {
 }
 
 fn later(stamp: Stamp, minutes: usize) -> Stamp {
-    let clock = usize::from(stamp.time / 100 * 60 + stamp.time % 100) + minutes;
-    let day = usize::from(stamp.day) + clock / 1440;
+    stamp_of(stamp.minute() + minutes as u32)
+}
+
+/// The stamp of a minute; past the last day its last minute.
+fn stamp_of(minute: u32) -> Stamp {
+    let (day, rest) = (minute / DAY, minute % DAY);
     if day > 9999 {
         return Stamp { day: 9999, time: 2359 };
     }
-    Stamp { day: day as u16, time: (clock % 1440 / 60 * 100 + clock % 60) as u16 }
+    Stamp { day: day as u16, time: (rest / 60 * 100 + rest % 60) as u16 }
 }
 
 // ---------------------------------------------------------------------------
@@ -946,7 +1177,7 @@ fn steered(mut rng: Rng) -> (Vec<u8>, Vec<u8>) {
     let mut list = Vec::new();
     if late {
         // near the end of the days
-        let day = driver.rng.between(9990, 9999);
+        let day = driver.rng.between(9970, 9999);
         let numbers = [day, 2350, 1, 1, 0, 0, 1];
         driver.apply(&numbers);
         list.push(numbers);
@@ -1016,7 +1247,7 @@ fn wild(mut rng: Rng) -> (Vec<u8>, Vec<u8>) {
             numbers[0] = 0;
         }
         if rng.chance(90) {
-            numbers[2] = rng.between(1, 13);
+            numbers[2] = rng.between(1, 14);
             let roles = roles(numbers[2]);
             for (number, role) in numbers[3..].iter_mut().zip(roles) {
                 if role == Role::Unused && rng.chance(90) {
@@ -1173,7 +1404,7 @@ fn text_of(list: &[[u16; 7]]) -> Vec<u8> {
 // A busy board
 // ---------------------------------------------------------------------------
 
-const BUSY: Mood = [3, 3, 7, 8, 8, 6, 8, 8, 8, 4, 5, 24, 16];
+const BUSY: Mood = [3, 3, 7, 8, 8, 6, 8, 8, 8, 4, 5, 24, 16, 2];
 
 /// Writes as it goes, since the list may be long; prints to standard error how
 /// busy the board is at ten points.
@@ -1184,10 +1415,12 @@ fn busy(mut rng: Rng, count: usize, folder: &Path) -> io::Result<()> {
     let mut driver = Driver::new(rng, &plan);
     driver.mood = BUSY;
     driver.leaps = false;
-    // 10000 days of 1440 minutes, not quite used up
-    driver.pace = (13_000_000 * 1000 / count.max(1)).min(3000);
+    // 10000 days of 1440 minutes, not quite used up, if half of the calls move
+    // the clock; some minutes a call, so that terms come round
+    driver.pace = (14_000_000 * 1000 * 2 / count.max(1)).min(25_000);
     let (mut accepted, mut tenth, mut done) = (0, 1, 0);
     for index in 0..count {
+        driver.ration = (20 + 9900 * index / count) as u16;
         let numbers = busy_call(&mut driver, index, count);
         if driver.apply(&numbers) == 0 {
             accepted += 1;
@@ -1197,9 +1430,10 @@ fn busy(mut rng: Rng, count: usize, folder: &Path) -> io::Result<()> {
             let board = &driver.board;
             let share = 100.0 * accepted as f64 / (index + 1 - done) as f64;
             let in_force = board.live.iter().filter(|one| one.is_in_force()).count();
+            let lpas = board.live.iter().filter(|one| one.is_in_force() && one.kind == Kind::Lpa).count();
             let led = board.trains.iter().filter(|train| train.with.is_some()).count();
             eprintln!(
-                "after {:8} calls: {:2} live ({in_force} in force), {:2} trains ({led} with an authority), {:2} gates blocked, {:4} allotted, day {:4}, {share:.1}% of this tenth accepted",
+                "after {:8} calls: {:2} live ({in_force} in force, {lpas} of them LPAs), {:2} trains ({led} with an authority), {:2} gates blocked, {:4} allotted, day {:4}, {share:.1}% of this tenth accepted",
                 index + 1,
                 board.live.len(),
                 board.trains.len(),
@@ -1219,7 +1453,7 @@ fn busy_call(driver: &mut Driver, index: usize, count: usize) -> [u16; 7] {
     }
     loop {
         let call = driver.rng.weighted(&driver.mood) as u16 + 1;
-        let want = if driver.rng.chance(60) { 0 } else { driver.rng.pick(refusals(call)) };
+        let want = if driver.rng.chance(63) { 0 } else { driver.rng.pick(refusals(call)) };
         for _ in 0..6 {
             let numbers = if call == 1 && want == 0 { busy_request(driver) } else { driver.candidate(call, want) };
             let answer = driver.answer(&numbers);

@@ -1,10 +1,12 @@
-//! The track authority board, read from 01-scope.md and from nothing else.
+//! The track authority board, read from 01-scope.md and order 1 of
+//! 02-change-requests.md and from nothing else.
 //!
 //! A plain program: it reads the files `plan` and `calls` in the working
 //! folder and prints the journal on standard output. Quotation marks in the
-//! comments hold 01's own words. Each call is one function of the board; its
-//! conditions for refusal are tested in ascending order of their numbers,
-//! because "the lowest number whose condition holds is given".
+//! comments hold the papers' own words; what isn't marked as order 1's is
+//! 01's. Each call is one function of the board; its conditions for refusal
+//! are tested in ascending order of their numbers, because "the lowest number
+//! whose condition holds is given".
 //!
 //! Build: rustc -O reference.rs
 //! As a module: #[path = "reference.rs"] mod reference;
@@ -25,6 +27,10 @@ pub const MOST_LIVE: usize = 32;
 pub const MOST_TRAINS: usize = 32;
 /// "Numbers are allotted 1, 2, 3 up to 9999 and never reused."
 pub const LAST_NUMBER: u16 = 9999;
+/// A day is 24 hours of 60 minutes.
+pub const DAY: u32 = 1440;
+/// Order 1: "advertised seven days ahead", "10,080 minutes".
+pub const NOTICE: u32 = 7 * DAY;
 
 /// A number takes 6 columns; a plan line is 19 bytes, a call line 43 and a
 /// journal line 55.
@@ -60,6 +66,9 @@ pub enum Refusal {
     Blocked = 18,
     NotPiloted = 19,
     Plan = 20,
+    /// Order 1 gives 21 and 22 no word.
+    ShortNotice = 21,
+    OutsideTerm = 22,
 }
 
 fn refuse_if(condition: bool, refusal: Refusal) -> Result<(), Refusal> {
@@ -186,6 +195,37 @@ pub enum Site {
     Clear,
 }
 
+/// Day and time of a call; the order is first by day, then by time.
+#[derive(Clone, Copy, PartialEq, Eq, PartialOrd, Ord, Debug)]
+pub struct Stamp {
+    pub day: u16,
+    pub time: u16,
+}
+
+impl Stamp {
+    /// The minute from day 0 time 0 on, of a stamp in range; time is hhmm. The
+    /// last minute of day 9999 is below 2^24, so that no sum below overflows.
+    pub fn minute(self) -> u32 {
+        u32::from(self.day) * DAY + u32::from(self.time / 100 * 60 + self.time % 100)
+    }
+}
+
+/// Order 1: "start day, start time, length in minutes (1 to 65535)".
+#[derive(Clone, Copy, PartialEq, Eq, Debug)]
+pub struct Term {
+    /// the start minute
+    pub start: u32,
+    pub length: u16,
+}
+
+impl Term {
+    /// Order 1: "from the start minute up to the minute before start plus
+    /// length", which may lie past day 9999.
+    pub fn holds(self, minute: u32) -> bool {
+        self.start <= minute && minute < self.start + u32::from(self.length)
+    }
+}
+
 #[derive(Clone, Copy, PartialEq, Eq, Debug)]
 pub struct Authority {
     pub number: AuthorityNumber,
@@ -199,6 +239,8 @@ pub struct Authority {
     pub site: Site,
     /// "for a TWA, the number of the TOA whose officer agreed, or 0"
     pub agreed: Option<AuthorityNumber>,
+    /// Order 1: for an LPA, the term that TERM gave it, if any.
+    pub term: Option<Term>,
 }
 
 impl Authority {
@@ -208,6 +250,12 @@ impl Authority {
 
     pub fn is_in_force(&self) -> bool {
         self.stage == Stage::InForce
+    }
+
+    /// Order 1, 22: "an LPA has no term or the minute is outside it"; never
+    /// for a TOA or a TWA.
+    pub fn is_outside_term(&self, stamp: Stamp) -> bool {
+        self.kind == Kind::Lpa && !self.term.is_some_and(|term| term.holds(stamp.minute()))
     }
 }
 
@@ -232,18 +280,12 @@ impl Train {
     }
 }
 
-/// Day and time of a call; the order is first by day, then by time.
-#[derive(Clone, Copy, PartialEq, Eq, PartialOrd, Ord, Debug)]
-pub struct Stamp {
-    pub day: u16,
-    pub time: u16,
-}
-
 // ---------------------------------------------------------------------------
 // Ranges
 // ---------------------------------------------------------------------------
 
-/// "Day is 0 to 9999, time hhmm on the 24-hour clock."
+/// "Day is 0 to 9999, time hhmm on the 24-hour clock." So too the start day
+/// and start time of a term.
 fn stamp_in_range(stamp: Stamp) -> bool {
     stamp.day <= 9999 && stamp.time / 100 <= 23 && stamp.time % 100 <= 59
 }
@@ -344,7 +386,8 @@ impl Board {
             11 => self.continue_as(stamp, a, b, c, d),
             12 => self.move_train(stamp, a, b, c, d),
             13 => self.passed(stamp, a, b, c, d),
-            // 2 "call not 1 to 13"
+            14 => self.term(stamp, a, b, c, d),
+            // 2; order 1: "for a number that no call has"
             _ => Err(Refusal::NoSuchCall),
         };
         match outcome {
@@ -368,7 +411,7 @@ impl Board {
         // 9 "32 held, or 9999 allotted"
         refuse_if(self.live.len() == MOST_LIVE || self.last_number == LAST_NUMBER, Refusal::Full)?;
 
-        // "Adds it pending, site clear, agreed 0."
+        // "Adds it pending, site clear, agreed 0"; a term comes with TERM.
         let limits = Portions::first_to_last(first, last);
         self.last_number += 1;
         self.live.push(Authority {
@@ -380,6 +423,7 @@ impl Board {
             stage: Stage::Pending,
             site: Site::Clear,
             agreed: None,
+            term: None,
         });
         Ok(self.last_number)
     }
@@ -462,7 +506,7 @@ impl Board {
     }
 
     /// 6 GRANT authority, officer {5; 6 not pending; 7; 11; 12 a train touches
-    /// the limits; 13}.
+    /// the limits; 13}, by order 1 also {22}.
     fn grant(&mut self, stamp: Stamp, authority: u16, officer: u16, c: u16, d: u16) -> Result<u16, Refusal> {
         // 3 "a range above, or an unused field not 0"
         self.fields(stamp, authority_in_range(authority) && officer_in_range(officer) && c == 0 && d == 0)?;
@@ -481,6 +525,8 @@ impl Board {
         refuse_if(self.is_touched(this.limits), Refusal::Occupied)?;
         // 13 "another in force shares a portion, unless ..."
         refuse_if(self.live.iter().any(|that| overlaps(this, that)), Refusal::Overlap)?;
+        // 22 "an LPA has no term or the minute is outside it"
+        refuse_if(this.is_outside_term(stamp), Refusal::OutsideTerm)?;
 
         // "In force, workers on."
         self.put_in_force(at);
@@ -581,7 +627,8 @@ impl Board {
     }
 
     /// 11 CONTINUE old, new, officer of old, officer of new {5; 6 old not in
-    /// force or new not pending; 7 either; 11, 12, 13 for the new}.
+    /// force or new not pending; 7 either; 11, 12, 13 for the new}, by order 1
+    /// also {22} for the new: "CONTINUE to an LPA".
     fn continue_as(&mut self, stamp: Stamp, old: u16, new: u16, old_officer: u16, new_officer: u16) -> Result<u16, Refusal> {
         // 3 "a range above"
         let numbers_right = authority_in_range(old) && authority_in_range(new);
@@ -610,6 +657,8 @@ impl Board {
         // 13 as for GRANT; "For 13 old isn't counted."
         let overlap = self.live.iter().any(|that| that.number != the_old.number && overlaps(&the_new, that));
         refuse_if(overlap, Refusal::Overlap)?;
+        // 22 "an LPA has no term or the minute is outside it", for the new
+        refuse_if(the_new.is_outside_term(stamp), Refusal::OutsideTerm)?;
 
         // "Old ends, new is in force with workers on."
         self.put_in_force(new_at);
@@ -700,6 +749,29 @@ impl Board {
         } else {
             self.trains[at].rear = self.trains[at].head;
         }
+        Ok(0)
+    }
+
+    /// 14 TERM authority, start day, start time, length in minutes {5; 6 not a
+    /// pending LPA; 8 it has a term; 21}. It names no officer.
+    fn term(&mut self, stamp: Stamp, authority: u16, day: u16, time: u16, length: u16) -> Result<u16, Refusal> {
+        // 3 "a range above": "length in minutes (1 to 65535)", of 16 bits
+        let start = Stamp { day, time };
+        self.fields(stamp, authority_in_range(authority) && stamp_in_range(start) && length >= 1)?;
+        // 4
+        self.clock(stamp)?;
+        // 5 "no live authority has that number"
+        let at = self.find_live(authority)?;
+        let this = &mut self.live[at];
+        // 6 "not a pending LPA"
+        refuse_if(this.kind != Kind::Lpa || !this.is_pending(), Refusal::Stage)?;
+        // 8 "it has a term": "once"
+        refuse_if(this.term.is_some(), Refusal::AlreadySo)?;
+        // 21 "the start is before the call or less than 10,080 minutes after
+        // it"
+        refuse_if(start.minute() < stamp.minute() + NOTICE, Refusal::ShortNotice)?;
+
+        this.term = Some(Term { start: start.minute(), length });
         Ok(0)
     }
 

@@ -3,17 +3,22 @@
 -- theorems about every `Ran`. Assumes nothing.
 use Prim.Native.Nat.{ℕ, _≤_, _<_}
 use mathlib.Core.Path.{_≡_, refl, sym, ap, ap₂, subst, _∙_}
+use mathlib.Core.Bool.{false}
 use mathlib.Core.List.{List, [], _∷_, _++_}
 use lib.ListN.{length, drop}
 use contract.Lifetimes.{Lfts}
 use denote.Ref.{now}
 use denote.Triple.Clauses.{AtExit}
 use borrow.Fn.Kinds.{Dens, endedOf}
+use Rattle.lists.specs.Search.{any}
+use Rattle.lists.proofs.Tests.{or-no}
+use Rattle.lists.proofs.Search.{Member}
+use Rattle.rules.specs.declared.Authority.{Authority}
 use Rattle.rules.specs.declared.Seven.{Seven}
 use Rattle.rules.specs.declared.Opened.{Opened}
 use Rattle.rules.specs.declared.Called.{Called}
 use Rattle.rules.specs.declared.Register.{Register}
-use Rattle.rules.specs.Board.{Board, boardOf, Same}
+use Rattle.rules.specs.Board.{Board, boardOf, authorityNo, Same}
 use Rattle.rules.specs.Plan.{openBoard}
 use Rattle.rules.specs.Refusals.{conditions, answer}
 use Rattle.rules.specs.Journal.{journalLine}
@@ -23,6 +28,7 @@ use Rattle.rules.specs.Claim.{Safe}
 use Rattle.rules.proofs.Answers.{NoneHolds, Refused, accepted-none, none-accepted, refused-lowest, lowest-refused, refused-same, refused-none, short-line, long-line}
 use Rattle.rules.proofs.Equality.{equal-same}
 use Rattle.rules.proofs.Safety.{demand-3}
+use Rattle.rules.proofs.Terms.{ended-by, StaysIn, term-stays}
 use Rattle.rules.proofs.Traces.{trace-snoc, final-snoc}
 use Rattle.board.proofs.entry.open.Kinds as open-kinds
 use Rattle.board.proofs.entry.open.Reads as open-reads
@@ -119,3 +125,13 @@ module _ (κs : Lfts 1) (a : Dens κs call-kinds.ps) (out : Called) (x : AtExit 
 
   pub long-written : 55 ≤ room → buffer′ ≡ journalLine s (out .answer) (out .number) ++ drop 55 buffer
   long-written h = p .line ∙ long-line s (out .answer) (out .number) buffer h
+
+  -- order 1: an authority that the call did not end is held after it, in force if it was, with the term that it had
+  pub term-kept : Kept (a .0) → (o : Authority) → Member o (b .authorities) → ended-by (authorityNo o) (answered s (out .answer)) ≡ false
+      → StaysIn o (boardOf (out .register) .authorities)
+  unfolding any trace final
+  term-kept k o m e =
+      let told : ended-by (authorityNo o) (answered s (answer b s room)) ≡ false =
+      subst (λ (n : ℕ). ended-by (authorityNo o) (answered s n) ≡ false) (p .answered) e in
+      subst (λ (c : Board). StaysIn o (c .authorities)) (sym (p .board))
+      (term-stays (made s buffer ∷ []) b (k .once) o m (or-no (ended-by (authorityNo o) (answered s (answer b s room))) false told refl))
