@@ -15,10 +15,10 @@ use Rattle.rules.specs.Board.{Board, boardOf, isTrain, onBoard, train}
 use Rattle.places.specs.declared.whole.Head.{Head}
 use Rattle.places.specs.Places.{HeadBounds, gatesIn, authoritiesIn, trainsIn}
 use Rattle.places.proofs.Registers.{gates-length, authorities-length, trains-length}
-use Rattle.held.specs.declared.trains.FoundTrain.{FoundTrain}
-use Rattle.held.specs.declared.trains.FoundTrain.the-variants.{Is, Nothing}
-use Rattle.held.specs.Trains.{foundTrain}
-use Rattle.held.proofs.TrainLaws.{train-is, train-none}
+use Rattle.trains.specs.declared.FoundTrain.{FoundTrain}
+use Rattle.trains.specs.declared.FoundTrain.the-variants.{Is, Nothing}
+use Rattle.trains.specs.Trains.{foundTrain}
+use Rattle.trains.proofs.TrainLaws.{train-is, train-none}
 
 -- ---- the places in use of each array are as many as the head says
 

@@ -10,10 +10,10 @@ use Rattle.rules.specs.declared.Authority.{Authority}
 use Rattle.rules.specs.declared.Register.{Register}
 use Rattle.rules.specs.Board.{boardOf, isAuthority, live, authority}
 use Rattle.rules.specs.Refusals.{Refusal, _when_, lowest, notLive}
-use Rattle.held.specs.declared.authorities.Found.{Found}
-use Rattle.held.specs.declared.authorities.Found.the-variants.{Is, Nothing}
-use Rattle.held.specs.Authorities.{foundIn}
-use Rattle.held.proofs.AuthorityLaws.{found-none, found-is}
+use Rattle.authorities.specs.declared.Found.{Found}
+use Rattle.authorities.specs.declared.Found.the-variants.{Is, Nothing}
+use Rattle.authorities.specs.Authorities.{foundIn}
+use Rattle.authorities.proofs.AuthorityLaws.{found-none, found-is}
 
 -- ---- the first refusal that holds
 

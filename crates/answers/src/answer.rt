@@ -24,7 +24,7 @@ use crate::refusal::NO_SUCH_CALL;
 use crate::refusal::NOT_LIVE;
 use crate::refusal::STILL_NEEDED;
 use crate::terms::answer_term;
-use held::Found;
+use authorities::Found;
 use places::Head;
 use rules::AuthorityNo;
 use rules::Call;
@@ -58,7 +58,7 @@ fn answer_withdraw(
     requires { ⌜ HeadBounds head ⌝ }
     ensures { λ x. ⌜ x ≡ lowest (withdrawRefusals (boardIn head (now (gates .entry)) (now (authorities .entry)) (now (trains .entry))) (n .0) officer) ⌝ }
 {
-    let Found::Is(a) = held::find(authorities, head.live, n) else {
+    let Found::Is(a) = authorities::find(authorities, head.live, n) else {
         return NOT_LIVE;
     };
     decide_withdraw(a, officer)
@@ -76,10 +76,10 @@ fn answer_agree(
     requires { ⌜ HeadBounds head ⌝ }
     ensures { λ x. ⌜ x ≡ lowest (agreeRefusals (boardIn head (now (gates .entry)) (now (authorities .entry)) (now (trains .entry))) (toa .0) (twa .0) officer) ⌝ }
 {
-    let Found::Is(x) = held::find(authorities, head.live, toa) else {
+    let Found::Is(x) = authorities::find(authorities, head.live, toa) else {
         return NOT_LIVE;
     };
-    let Found::Is(y) = held::find(authorities, head.live, twa) else {
+    let Found::Is(y) = authorities::find(authorities, head.live, twa) else {
         return NOT_LIVE;
     };
     decide_agree(x, y, toa, officer)
@@ -136,7 +136,7 @@ fn answer_grant(
     requires { ⌜ HeadBounds head ⌝ }
     ensures { λ x. ⌜ x ≡ lowest (grantRefusals (boardIn head (now (gates .entry)) (now (authorities .entry)) (now (trains .entry))) s (n .0) officer) ⌝ }
 {
-    let Found::Is(a) = held::find(authorities, head.live, n) else {
+    let Found::Is(a) = authorities::find(authorities, head.live, n) else {
         return NOT_LIVE;
     };
     decide_grant(head, gates, authorities, trains, s, a, officer)
@@ -153,7 +153,7 @@ fn answer_clear(
     requires { ⌜ HeadBounds head ⌝ }
     ensures { λ x. ⌜ x ≡ lowest (clearRefusals (boardIn head (now (gates .entry)) (now (authorities .entry)) (now (trains .entry))) (n .0) officer) ⌝ }
 {
-    let Found::Is(a) = held::find(authorities, head.live, n) else {
+    let Found::Is(a) = authorities::find(authorities, head.live, n) else {
         return NOT_LIVE;
     };
     decide_clear(a, officer)
@@ -170,7 +170,7 @@ fn answer_reoccupy(
     requires { ⌜ HeadBounds head ⌝ }
     ensures { λ x. ⌜ x ≡ lowest (reoccupyRefusals (boardIn head (now (gates .entry)) (now (authorities .entry)) (now (trains .entry))) (n .0) officer) ⌝ }
 {
-    let Found::Is(a) = held::find(authorities, head.live, n) else {
+    let Found::Is(a) = authorities::find(authorities, head.live, n) else {
         return NOT_LIVE;
     };
     decide_reoccupy(head, gates, authorities, trains, a, officer)
@@ -188,7 +188,7 @@ fn answer_hand_over(
     requires { ⌜ HeadBounds head ⌝ }
     ensures { λ x. ⌜ x ≡ lowest (handOverRefusals (boardIn head (now (gates .entry)) (now (authorities .entry)) (now (trains .entry))) (n .0) out into) ⌝ }
 {
-    let Found::Is(a) = held::find(authorities, head.live, n) else {
+    let Found::Is(a) = authorities::find(authorities, head.live, n) else {
         return NOT_LIVE;
     };
     decide_hand_over(a, out, into)
@@ -206,7 +206,7 @@ fn answer_fulfil(
     requires { ⌜ HeadBounds head ⌝ }
     ensures { λ x. ⌜ x ≡ lowest (fulfilRefusals (boardIn head (now (gates .entry)) (now (authorities .entry)) (now (trains .entry))) (n .0) officer assurances) ⌝ }
 {
-    let Found::Is(a) = held::find(authorities, head.live, n) else {
+    let Found::Is(a) = authorities::find(authorities, head.live, n) else {
         return NOT_LIVE;
     };
     decide_fulfil(a, officer, assurances)
@@ -226,10 +226,10 @@ fn answer_continue(
     requires { ⌜ HeadBounds head ⌝ }
     ensures { λ x. ⌜ x ≡ lowest (continueRefusals (boardIn head (now (gates .entry)) (now (authorities .entry)) (now (trains .entry))) s (old .0) (new .0) «officer_old» «officer_new») ⌝ }
 {
-    let Found::Is(x) = held::find(authorities, head.live, old) else {
+    let Found::Is(x) = authorities::find(authorities, head.live, old) else {
         return NOT_LIVE;
     };
-    let Found::Is(y) = held::find(authorities, head.live, new) else {
+    let Found::Is(y) = authorities::find(authorities, head.live, new) else {
         return NOT_LIVE;
     };
     decide_continue(

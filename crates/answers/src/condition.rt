@@ -3,13 +3,13 @@ ghost use mathlib.Core.Path.{_≡_};
 ghost use Rattle.rules.specs.Board.{gateAt};
 ghost use Rattle.rules.specs.Refusals.{early, full, unprotected, occupied, occupiedBeside, overlaps, stillNeeded};
 ghost use Rattle.places.specs.Places.{HeadBounds, boardIn};
-use held::TrainQuery;
 use places::Head;
 use rules::Authority;
 use rules::AuthorityNo;
 use rules::Gate;
 use rules::GateNo;
 use rules::Seven;
+use trains::TrainQuery;
 
 // The gate with that number.
 pub fn gate_at(
@@ -85,7 +85,7 @@ pub fn is_occupied(
     requires { ⌜ HeadBounds head ⌝ }
     ensures { λ x. ⌜ x ≡ occupied (boardIn head (now (gates .entry)) (now (authorities .entry)) (now (trains .entry))) a ⌝ }
 {
-    held::is_met(trains, head.running, TrainQuery::Touching(a.limits))
+    trains::is_met(trains, head.running, TrainQuery::Touching(a.limits))
 }
 
 // 12 of CONTINUE: a train is in the way of the new authority.
@@ -100,7 +100,7 @@ pub fn is_occupied_beside(
     requires { ⌜ HeadBounds head ⌝ }
     ensures { λ x. ⌜ x ≡ occupiedBeside (boardIn head (now (gates .entry)) (now (authorities .entry)) (now (trains .entry))) (old .0) a ⌝ }
 {
-    held::is_met(trains, head.running, TrainQuery::InTheWay(old, a))
+    trains::is_met(trains, head.running, TrainQuery::InTheWay(old, a))
 }
 
 // 13: another in force shares a portion, old not counted.
@@ -115,7 +115,7 @@ pub fn is_overlapping(
     requires { ⌜ HeadBounds head ⌝ }
     ensures { λ x. ⌜ x ≡ overlaps (boardIn head (now (gates .entry)) (now (authorities .entry)) (now (trains .entry))) (old .0) a ⌝ }
 {
-    held::is_overlapped(authorities, head.live, old, a)
+    authorities::is_overlapped(authorities, head.live, old, a)
 }
 
 // 16: an authority in force needs the gate.
@@ -130,5 +130,5 @@ pub fn is_still_needed(
     ensures { λ x. ⌜ x ≡ stillNeeded (boardIn head (now (gates .entry)) (now (authorities .entry)) (now (trains .entry))) (g .0) ⌝ }
 {
     let gate = gate_at(head, gates, authorities, trains, g);
-    held::is_still_needed(authorities, head.live, gate)
+    authorities::is_still_needed(authorities, head.live, gate)
 }

@@ -10,4 +10,3 @@ pub use answer::answer_of;
 pub use answer::fault_of;
 pub use condition::gate_at;
 pub use condition::is_early;
-pub use terms::minute_of;

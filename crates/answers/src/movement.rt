@@ -4,7 +4,7 @@ ghost use Rattle.rules.specs.Board.{gateAt};
 ghost use Rattle.rules.specs.Refusals.{lowest, isE, isW, noRoom, taken, workedOn, notThere, barred, notPiloted, moveRefusals, passedRefusals};
 ghost use Rattle.lists.specs.Prefix.{prefix};
 ghost use Rattle.places.specs.Places.{HeadBounds, authoritiesIn, boardIn};
-ghost use Rattle.held.specs.Authorities.{foundIn};
+ghost use Rattle.authorities.specs.Authorities.{foundIn};
 use crate::condition::gate_at;
 use crate::refusal::ALREADY_SO;
 use crate::refusal::BLOCKED;
@@ -13,14 +13,14 @@ use crate::refusal::NO_TRAIN;
 use crate::refusal::NOT_PILOTED;
 use crate::refusal::OCCUPIED;
 use crate::refusal::SITE;
-use held::Found;
-use held::FoundTrain;
-use held::TrainQuery;
+use authorities::Found;
 use places::Head;
 use rules::AuthorityNo;
 use rules::Gate;
 use rules::GateNo;
 use rules::TrainNo;
+use trains::FoundTrain;
+use trains::TrainQuery;
 
 // 9: from outside, 32 trains on the board.
 fn has_no_room(
@@ -49,10 +49,10 @@ fn is_taken(
     requires { ⌜ HeadBounds head × (e ≡ foundIn (isE to) (prefix (head .live) (authoritiesIn (now authorities)))) ⌝ }
     ensures { λ x. ⌜ x ≡ taken (boardIn head (now (gates .entry)) (now (authorities .entry)) (now (trains .entry))) (t .0) to ⌝ }
 {
-    if held::is_found(e) {
+    if authorities::is_found(e) {
         return false;
     }
-    held::is_met(trains, head.running, TrainQuery::OtherAt(t, to))
+    trains::is_met(trains, head.running, TrainQuery::OtherAt(t, to))
 }
 
 // 14: W has workers on.
@@ -85,7 +85,7 @@ fn is_not_there(
     requires { ⌜ HeadBounds head ⌝ }
     ensures { λ x. ⌜ x ≡ notThere (boardIn head (now (gates .entry)) (now (authorities .entry)) (now (trains .entry))) (t .0) gate ⌝ }
 {
-    let FoundTrain::Is(x) = held::find_train(trains, head.running, t) else {
+    let FoundTrain::Is(x) = trains::find_train(trains, head.running, t) else {
         return gate.from != 99;
     };
     if gate.from == 99 {
@@ -108,7 +108,7 @@ fn is_barred(
     requires { ⌜ (e ≡ foundIn (isE to) (prefix (head .live) (authoritiesIn (now authorities)))) × (w ≡ foundIn (isW to) (prefix (head .live) (authoritiesIn (now authorities)))) ⌝ }
     ensures { λ x. ⌜ x ≡ barred (boardIn head (now (gates .entry)) (now (authorities .entry)) (now (trains .entry))) (g .0) to ⌝ }
 {
-    portions::has(head.blocks, g.0) & !held::is_found(e) & !held::is_found(w)
+    portions::has(head.blocks, g.0) & !authorities::is_found(e) & !authorities::is_found(w)
 }
 
 // 19: authority and officer aren't those of E, else those of W, else 0 and 0.
@@ -187,8 +187,8 @@ pub fn answer_move(
     ensures { λ x. ⌜ x ≡ lowest (moveRefusals (boardIn head (now (gates .entry)) (now (authorities .entry)) (now (trains .entry))) (t .0) (g .0) (gateAt ((boardIn head (now (gates .entry)) (now (authorities .entry)) (now (trains .entry))) .gates) (g .0)) (n .0) officer) ⌝ }
 {
     let gate = gate_at(head, gates, authorities, trains, g);
-    let e = held::find_holding(authorities, head.live, gate.to, true);
-    let w = held::find_holding(authorities, head.live, gate.to, false);
+    let e = authorities::find_holding(authorities, head.live, gate.to, true);
+    let w = authorities::find_holding(authorities, head.live, gate.to, false);
     decide_move(
         head,
         gates,
@@ -214,7 +214,7 @@ pub fn answer_passed(
     requires { ⌜ HeadBounds head ⌝ }
     ensures { λ x. ⌜ x ≡ lowest (passedRefusals (boardIn head (now (gates .entry)) (now (authorities .entry)) (now (trains .entry))) (t .0)) ⌝ }
 {
-    let FoundTrain::Is(x) = held::find_train(trains, head.running, t) else {
+    let FoundTrain::Is(x) = trains::find_train(trains, head.running, t) else {
         return NO_TRAIN;
     };
     if x.head == x.rear {

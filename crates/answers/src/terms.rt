@@ -9,18 +9,12 @@ use crate::refusal::ALREADY_SO;
 use crate::refusal::NOT_LIVE;
 use crate::refusal::NOTICE;
 use crate::refusal::STAGE;
-use held::Found;
+use authorities::Found;
+use decode::minute_of;
 use places::Head;
 use rules::Authority;
 use rules::AuthorityNo;
 use rules::Seven;
-
-// The minute of a stamp.
-pub fn minute_of(day: u16, time: u16) -> u32
-    ensures { λ r. ⌜ r ≡ minuteOf day time ⌝ }
-{
-    day as u32 * 1440 + time as u32 / 100 * 60 + time as u32 % 100
-}
 
 // 21: the start is before the call or less than 10,080 minutes after it.
 fn is_too_soon(s: Seven, start: u32) -> bool
@@ -39,7 +33,7 @@ pub fn is_outside_term(s: Seven, a: Authority) -> bool
     let start = a.start as u64;
     let end = start + a.length as u64;
     let now = minute_of(s.day, s.time) as u64;
-    held::is_lpa(kind) & ((a.length == 0) | !((start <= now) & (now < end)))
+    authorities::is_lpa(kind) & ((a.length == 0) | !((start <= now) & (now < end)))
 }
 
 // 6, 8 and 21 of TERM, with the authority found.
@@ -47,7 +41,7 @@ fn decide_term(s: Seven, a: Authority, start: u32) -> u16
     ensures { λ v. ⌜ v ≡ lowest (6 when notPendingLpa a ∷ 8 when hasTerm a ∷ 21 when tooSoon s start ∷ []) ⌝ }
 {
     let kind = a.kind;
-    if !(held::is_lpa(kind) & !a.in_force) {
+    if !(authorities::is_lpa(kind) & !a.in_force) {
         return STAGE;
     }
     if a.length != 0 {
@@ -72,7 +66,7 @@ pub fn answer_term(
     requires { ⌜ HeadBounds head ⌝ }
     ensures { λ x. ⌜ x ≡ lowest (termRefusals (boardIn head (now (gates .entry)) (now (authorities .entry)) (now (trains .entry))) s (n .0) (minuteOf day time)) ⌝ }
 {
-    let Found::Is(a) = held::find(authorities, head.live, n) else {
+    let Found::Is(a) = authorities::find(authorities, head.live, n) else {
         return NOT_LIVE;
     };
     decide_term(s, a, minute_of(day, time))

@@ -1,7 +1,7 @@
 // Reading a call off its seven numbers: its number is matched over 1 to 14 and the range beyond, its fields are then matched by kind.
 ghost use mathlib.Core.Path.{_≡_};
 ghost use mathlib.Core.Bool.{_&&_};
-ghost use Rattle.rules.specs.Call.{isDay, isTime, inRange, inForm, inRanges, kindOf, entryOf, isCall, named, decoded};
+ghost use Rattle.rules.specs.Call.{isDay, isTime, minuteOf, inRange, inForm, inRanges, kindOf, entryOf, isCall, named, decoded};
 use rules::AuthorityNo;
 use rules::Call;
 use rules::Field;
@@ -29,6 +29,13 @@ fn is_stamp(day: u16, time: u16) -> bool
     ensures { λ r. ⌜ r ≡ (isDay day && isTime time) ⌝ }
 {
     is_day(day) & is_time(time)
+}
+
+// The minute of a stamp: 1440 a day, and the minutes of the day.
+pub fn minute_of(day: u16, time: u16) -> u32
+    ensures { λ r. ⌜ r ≡ minuteOf day time ⌝ }
+{
+    day as u32 * 1440 + time as u32 / 100 * 60 + time as u32 % 100
 }
 
 // The value is in the range of its kind of field; next is the value of the field after it.

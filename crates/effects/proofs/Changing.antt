@@ -26,15 +26,15 @@ use Rattle.rules.specs.Refusals.{Refusal, _when_, lowest, full, noRoom, own}
 use Rattle.rules.specs.Effects.{effect}
 use Rattle.places.specs.declared.whole.Head.{Head}
 use Rattle.places.specs.Places.{authoritiesIn, trainsIn, headOf, registerIn, HeadBounds}
-use Rattle.held.specs.declared.authorities.Found.{Found}
-use Rattle.held.specs.declared.authorities.Found.the-variants as Found
-use Rattle.held.specs.declared.trains.FoundTrain.{FoundTrain}
-use Rattle.held.specs.declared.trains.FoundTrain.the-variants as FoundTrain
-use Rattle.held.specs.Authorities.{foundIn}
-use Rattle.held.specs.Trains.{foundTrain}
-use Rattle.held.specs.Places.{Holds}
-use Rattle.held.proofs.AuthorityLaws.{found-none}
-use Rattle.held.proofs.TrainLaws.{train-none}
+use Rattle.authorities.specs.declared.Found.{Found}
+use Rattle.authorities.specs.declared.Found.the-variants as Found
+use Rattle.trains.specs.declared.FoundTrain.{FoundTrain}
+use Rattle.trains.specs.declared.FoundTrain.the-variants as FoundTrain
+use Rattle.authorities.specs.Authorities.{foundIn}
+use Rattle.trains.specs.Trains.{foundTrain}
+use Rattle.authorities.specs.Places.{Holds}
+use Rattle.authorities.proofs.AuthorityLaws.{found-none}
+use Rattle.trains.proofs.TrainLaws.{train-none}
 use Rattle.places.specs.Places.{boardIn}
 use Rattle.effects.specs.Effects.{EffectPost, HasRoom}
 use Rattle.answers.proofs.Conditions.{authorities-in-use, trains-in-use}

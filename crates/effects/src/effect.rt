@@ -7,11 +7,9 @@ ghost use Rattle.rules.specs.Refusals.{lowest, own};
 ghost use Rattle.places.specs.Places.{HeadBounds, registerIn, boardIn};
 ghost use Rattle.effects.specs.Effects.{EffectPost, HasRoom};
 use answers::gate_at;
-use answers::minute_of;
-use held::Change;
-use held::Found;
-use held::FoundTrain;
-use held::TrainChange;
+use authorities::Change;
+use authorities::Found;
+use decode::minute_of;
 use places::Head;
 use rules::Authority;
 use rules::AuthorityNo;
@@ -21,6 +19,8 @@ use rules::Kind;
 use rules::Seven;
 use rules::Train;
 use rules::TrainNo;
+use trains::FoundTrain;
+use trains::TrainChange;
 
 fn request(
     head: Head,
@@ -47,7 +47,7 @@ fn request(
         start: 0,
         length: 0,
     };
-    held::add_authority(authorities, head.live, a);
+    authorities::add_authority(authorities, head.live, a);
     let mut out = head;
     out.live = head.live + 1;
     out.last = number;
@@ -66,7 +66,7 @@ fn withdraw(
     ensures { λ out. ⌜ EffectPost (registerIn head (now (gates .entry)) (now (authorities .entry)) (now (trains .entry))) (Call.Withdraw n officer) (registerIn out (now (gates .entry)) (now (authorities .exit)) (now (trains .exit))) ⌝ }
 {
     let mut out = head;
-    out.live = held::end_authority(authorities, head.live, n);
+    out.live = authorities::end_authority(authorities, head.live, n);
     out
 }
 
@@ -82,7 +82,7 @@ fn agree(
     requires { ⌜ HeadBounds head ⌝ }
     ensures { λ out. ⌜ EffectPost (registerIn head (now (gates .entry)) (now (authorities .entry)) (now (trains .entry))) (Call.Agree toa twa officer) (registerIn out (now (gates .entry)) (now (authorities .exit)) (now (trains .exit))) ⌝ }
 {
-    held::amend(authorities, head.live, twa, Change::Agreed(toa));
+    authorities::amend(authorities, head.live, twa, Change::Agreed(toa));
     head
 }
 
@@ -127,7 +127,7 @@ fn grant(
     requires { ⌜ HeadBounds head ⌝ }
     ensures { λ out. ⌜ EffectPost (registerIn head (now (gates .entry)) (now (authorities .entry)) (now (trains .entry))) (Call.Grant n officer) (registerIn out (now (gates .entry)) (now (authorities .exit)) (now (trains .exit))) ⌝ }
 {
-    held::amend(authorities, head.live, n, Change::Granted);
+    authorities::amend(authorities, head.live, n, Change::Granted);
     head
 }
 
@@ -142,7 +142,7 @@ fn clear(
     requires { ⌜ HeadBounds head ⌝ }
     ensures { λ out. ⌜ EffectPost (registerIn head (now (gates .entry)) (now (authorities .entry)) (now (trains .entry))) (Call.Clear n officer) (registerIn out (now (gates .entry)) (now (authorities .exit)) (now (trains .exit))) ⌝ }
 {
-    held::amend(authorities, head.live, n, Change::Site(false));
+    authorities::amend(authorities, head.live, n, Change::Site(false));
     head
 }
 
@@ -157,7 +157,7 @@ fn reoccupy(
     requires { ⌜ HeadBounds head ⌝ }
     ensures { λ out. ⌜ EffectPost (registerIn head (now (gates .entry)) (now (authorities .entry)) (now (trains .entry))) (Call.Reoccupy n officer) (registerIn out (now (gates .entry)) (now (authorities .exit)) (now (trains .exit))) ⌝ }
 {
-    held::amend(authorities, head.live, n, Change::Site(true));
+    authorities::amend(authorities, head.live, n, Change::Site(true));
     head
 }
 
@@ -173,7 +173,7 @@ fn hand_over(
     requires { ⌜ HeadBounds head ⌝ }
     ensures { λ o. ⌜ EffectPost (registerIn head (now (gates .entry)) (now (authorities .entry)) (now (trains .entry))) (Call.HandOver n out into) (registerIn o (now (gates .entry)) (now (authorities .exit)) (now (trains .exit))) ⌝ }
 {
-    held::amend(authorities, head.live, n, Change::Officer(into));
+    authorities::amend(authorities, head.live, n, Change::Officer(into));
     head
 }
 
@@ -190,8 +190,8 @@ fn fulfil(
     ensures { λ out. ⌜ EffectPost (registerIn head (now (gates .entry)) (now (authorities .entry)) (now (trains .entry))) (Call.Fulfil n officer assurances) (registerIn out (now (gates .entry)) (now (authorities .exit)) (now (trains .exit))) ⌝ }
 {
     let mut out = head;
-    out.live = held::end_authority(authorities, head.live, n);
-    held::change_trains(trains, head.running, TrainChange::Freed(n));
+    out.live = authorities::end_authority(authorities, head.live, n);
+    trains::change_trains(trains, head.running, TrainChange::Freed(n));
     out
 }
 
@@ -206,7 +206,7 @@ fn limits_of(
     requires { ⌜ HeadBounds head ⌝ }
     ensures { λ x. ⌜ x ≡ authority (boardIn head (now (gates .entry)) (now (authorities .entry)) (now (trains .entry))) (n .0) .limits ⌝ }
 {
-    let Found::Is(a) = held::find(authorities, head.live, n) else {
+    let Found::Is(a) = authorities::find(authorities, head.live, n) else {
         return 0;
     };
     a.limits
@@ -227,9 +227,9 @@ fn continue_as(
 {
     let limits = limits_of(head, gates, authorities, trains, new);
     let mut out = head;
-    out.live = held::end_authority(authorities, head.live, old);
-    held::amend(authorities, out.live, new, Change::Granted);
-    held::change_trains(
+    out.live = authorities::end_authority(authorities, head.live, old);
+    authorities::amend(authorities, out.live, new, Change::Granted);
+    trains::change_trains(
         trains,
         head.running,
         TrainChange::Continued(old, new, limits),
@@ -259,10 +259,10 @@ fn move_train(
             rear: gate.to,
             with: n,
         };
-        held::add_train(trains, head.running, entered);
+        trains::add_train(trains, head.running, entered);
         out.running = head.running + 1;
     } else {
-        held::change_trains(trains, head.running, TrainChange::Head(t, gate.to, n));
+        trains::change_trains(trains, head.running, TrainChange::Head(t, gate.to, n));
     }
     out
 }
@@ -278,7 +278,7 @@ fn is_head_outside(
     requires { ⌜ HeadBounds head ⌝ }
     ensures { λ x. ⌜ x ≡ isOutside (train (boardIn head (now (gates .entry)) (now (authorities .entry)) (now (trains .entry))) (t .0) .head) ⌝ }
 {
-    let FoundTrain::Is(x) = held::find_train(trains, head.running, t) else {
+    let FoundTrain::Is(x) = trains::find_train(trains, head.running, t) else {
         return false;
     };
     x.head == 99
@@ -296,9 +296,9 @@ fn passed(
 {
     let mut out = head;
     if is_head_outside(head, gates, authorities, trains, t) {
-        out.running = held::remove_train(trains, head.running, t);
+        out.running = trains::remove_train(trains, head.running, t);
     } else {
-        held::change_trains(trains, head.running, TrainChange::RearIn(t));
+        trains::change_trains(trains, head.running, TrainChange::RearIn(t));
     }
     out
 }
@@ -316,7 +316,7 @@ fn term(
     requires { ⌜ HeadBounds head ⌝ }
     ensures { λ out. ⌜ EffectPost (registerIn head (now (gates .entry)) (now (authorities .entry)) (now (trains .entry))) (Call.Term n day time length) (registerIn out (now (gates .entry)) (now (authorities .exit)) (now (trains .exit))) ⌝ }
 {
-    held::amend(
+    authorities::amend(
         authorities,
         head.live,
         n,

@@ -2,7 +2,7 @@
 use borrow.Author.Needs.{needs}
 use Rattle.rules.specs.Board.{boardOf}
 use Rattle.rules.specs.Refusals.{occupied}
-use Rattle.held.proofs.TrainLaws.{any-touching}
+use Rattle.trains.proofs.TrainLaws.{any-touching}
 use Rattle.answers.proofs.condition.is_occupied.Statement.{statement}
 use Rattle.answers.proofs.condition.is_occupied.Tie as tie
 

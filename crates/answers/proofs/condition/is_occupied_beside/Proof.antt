@@ -2,7 +2,7 @@
 use borrow.Author.Needs.{needs}
 use Rattle.rules.specs.Board.{boardOf}
 use Rattle.rules.specs.Refusals.{occupiedBeside}
-use Rattle.held.proofs.TrainLaws.{any-in-the-way}
+use Rattle.trains.proofs.TrainLaws.{any-in-the-way}
 use Rattle.answers.proofs.condition.is_occupied_beside.Statement.{statement}
 use Rattle.answers.proofs.condition.is_occupied_beside.Tie as tie
 

@@ -1,6 +1,6 @@
 -- `answers::movement::answer_move` meets its contract. Assumes nothing.
 use borrow.Author.Needs.{needs}
-use Rattle.held.specs.Authorities.{holdsPortion}
+use Rattle.authorities.specs.Authorities.{holdsPortion}
 use Rattle.answers.proofs.movement.answer_move.Statement.{statement}
 use Rattle.answers.proofs.movement.answer_move.Tie as tie
 

@@ -2,7 +2,7 @@
 use borrow.Author.Needs.{needs}
 use Rattle.rules.specs.Board.{boardOf}
 use Rattle.rules.specs.Refusals.{isE, isW, anyE, anyW, barred}
-use Rattle.held.proofs.AuthorityLaws.{found-any}
+use Rattle.authorities.proofs.AuthorityLaws.{found-any}
 use Rattle.answers.proofs.movement.is_barred.Statement.{statement}
 use Rattle.answers.proofs.movement.is_barred.Tie as tie
 

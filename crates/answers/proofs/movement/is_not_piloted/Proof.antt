@@ -3,7 +3,7 @@ use mathlib.Core.Path.{sym, _∙_}
 use borrow.Author.Needs.{needs}
 use Rattle.rules.specs.Board.{boardOf}
 use Rattle.rules.specs.Refusals.{anyE, anyW, theW, pilot, notPiloted}
-use Rattle.held.proofs.AuthorityLaws.{found-none, found-is}
+use Rattle.authorities.proofs.AuthorityLaws.{found-none, found-is}
 use Rattle.answers.proofs.movement.is_not_piloted.Statement.{statement}
 use Rattle.answers.proofs.movement.is_not_piloted.Tie as tie
 

@@ -2,8 +2,8 @@
 use borrow.Author.Needs.{needs}
 use Rattle.rules.specs.Board.{boardOf}
 use Rattle.rules.specs.Refusals.{anyE, taken}
-use Rattle.held.proofs.AuthorityLaws.{found-any}
-use Rattle.held.proofs.TrainLaws.{any-other-at}
+use Rattle.authorities.proofs.AuthorityLaws.{found-any}
+use Rattle.trains.proofs.TrainLaws.{any-other-at}
 use Rattle.answers.proofs.movement.is_taken.Statement.{statement}
 use Rattle.answers.proofs.movement.is_taken.Tie as tie
 

@@ -3,7 +3,7 @@ use mathlib.Core.Path.{sym, _∙_}
 use borrow.Author.Needs.{needs}
 use Rattle.rules.specs.Board.{boardOf}
 use Rattle.rules.specs.Refusals.{anyW, theW, workedOn}
-use Rattle.held.proofs.AuthorityLaws.{found-none, found-is}
+use Rattle.authorities.proofs.AuthorityLaws.{found-none, found-is}
 use Rattle.answers.proofs.movement.is_worked_on.Statement.{statement}
 use Rattle.answers.proofs.movement.is_worked_on.Tie as tie
 

@@ -3,8 +3,8 @@ use borrow.Author.Needs.{needs}
 use mathlib.Core.Path.{ap, _∙_}
 use Rattle.rules.specs.Board.{boardOf, amended}
 use Rattle.rules.specs.Effects.{effect, granted}
-use Rattle.held.specs.Authorities.{changeOf}
-use Rattle.held.specs.Trains.{trainTest, trainChange}
+use Rattle.authorities.specs.Authorities.{changeOf}
+use Rattle.trains.specs.Trains.{trainTest, trainChange}
 use Rattle.effects.proofs.Changing.{changed-effect}
 use Rattle.effects.proofs.effect.continue_as.Statement.{statement}
 use Rattle.effects.proofs.effect.continue_as.Tie as tie

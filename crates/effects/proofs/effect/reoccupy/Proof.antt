@@ -3,7 +3,7 @@ use borrow.Author.Needs.{needs}
 use mathlib.Core.Path.{refl}
 use Rattle.rules.specs.Board.{boardOf}
 use Rattle.rules.specs.Effects.{effect}
-use Rattle.held.specs.Authorities.{changeOf}
+use Rattle.authorities.specs.Authorities.{changeOf}
 use Rattle.effects.proofs.Changing.{amended-effect}
 use Rattle.effects.proofs.effect.reoccupy.Statement.{statement}
 use Rattle.effects.proofs.effect.reoccupy.Tie as tie

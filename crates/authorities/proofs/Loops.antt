@@ -1,0 +1,201 @@
+-- The loops over the first `count` of 32 places, for any type of element: a search that is left at the first that passes, a change in place,
+-- a removal in place that keeps the order, and one more at the end. Of each loop: what holds where place i is next, then its start, a turn
+-- where the element at i passes, one where it does not, and its end. The list read is the list stored into: l is that of the start, `now`
+-- that of this turn, `next` that of the turn after. Assumes nothing.
+use Prim.Native.Nat.{ℕ, _+_, _≤_, _<_}
+use native.Mathlib.Omega.{arith}
+use native.Mathlib.Nat.{add-zero}
+use mathlib.Core.Path.{_≡_, refl, sym, _∙_}
+use mathlib.Core.Bool.{Bool, true, false, cond, _||_}
+use mathlib.Core.List.{List, [], _∷_, _++_}
+use lib.ListN.{length, drop, getD, set, length-set}
+use lib.Seq.{getD-drop, drop-at, drop-drop, drop-set-lt}
+use Rattle.lists.specs.Search.{any, first, keep, change}
+use Rattle.lists.specs.Prefix.{prefix}
+use Rattle.lists.proofs.Search.{length-change}
+use Rattle.lists.proofs.Prefix.{any-hit, any-miss, any-end, first-hit, first-miss, length-prefix, prefix-none, stored-last, keep-hit, keep-miss}
+use Rattle.lists.proofs.Prefix.{changedTo, change-start, change-hit, change-miss, change-end}
+use Rattle.authorities.specs.Places.{Holds}
+
+-- the loop is at place i of those in use, or behind the last; the list has 32 places
+pub record Reached {A : Type 0} (l : List A) (count i : ℕ) : Type 0 where
+  pub reached : i ≤ count
+  pub fits : count ≤ 32
+  pub places : length l ≡ 32
+
+module _ {A : Type 0} {l : List A} {count : ℕ} where
+  start : count ≤ 32 → length l ≡ 32 → Reached l count 0
+  start fits places = record { reached = omega arith; fits = fits; places = places }
+
+  further : {i : ℕ} → Reached l count i → i < count → Reached l count (i + 1)
+  further p more = record { reached = omega arith; fits = p .fits; places = p .places }
+
+  last : {i : ℕ} → Reached l count i → count ≤ i → i ≡ count
+  last p over = omega arith
+
+-- ---- a search
+
+-- the answer on a list is `found` of the first that passes the test, and `none` where none passes
+pub record Searches {A R : Type 0} (test : A → Bool) (found : A → R) (none : R) (answer : List A → R) : Type 0 where
+  pub of-none : answer [] ≡ none
+  pub of-one : (x : A) (xs : List A) → answer (x ∷ xs) ≡ cond (test x) (found x) (answer xs)
+
+-- `any` is one
+any-step : (a b : Bool) → (a || b) ≡ cond a true b
+any-step true b = refl
+any-step false b = refl
+
+pub any-searches : {A : Type 0} (test : A → Bool) → Searches test (λ x. true) false (any test)
+unfolding any
+any-searches test = record { of-none = refl; of-one = λ x xs. any-step (test x) (any test xs) }
+
+as-step : {A R : Type 0} (a b : Bool) (found : A → R) (none r : R) (x y : A) → r ≡ cond b (found y) none
+    → cond a (found x) r ≡ cond (a || b) (found (cond a x y)) none
+as-step true b found none r x y e = refl
+as-step false b found none r x y e = e
+
+-- in the words of `any` and `first`
+pub search-as : {A R : Type 0} {test : A → Bool} {found : A → R} {none : R} {answer : List A → R} → Searches test found none answer
+    → (d : A) (l : List A) → answer l ≡ cond (any test l) (found (first test d l)) none
+unfolding any first
+search-as s d [] = s .of-none
+search-as {test = test} {found = found} {none = none} {answer = answer} s d (x ∷ xs) =
+    s .of-one x xs ∙ as-step (test x) (any test xs) found none (answer xs) x (first test d xs) (search-as s d xs)
+
+-- a test that tells `found` from `none` is true of the answer where any passes
+pub search-any : {A R : Type 0} {test : A → Bool} {found : A → R} {none : R} {answer : List A → R} → Searches test found none answer
+    → (told : R → Bool) → told none ≡ false → ((x : A) → told (found x) ≡ true) → (d : A) (l : List A) → told (answer l) ≡ any test l
+search-any {test = test} {found = found} {none = none} s told no-one one d l = rw (search-as s d l) (go (any test l))
+  where
+    go : (t : Bool) → told (cond t (found (first test d l)) none) ≡ t
+    go true = one (first test d l)
+    go false = no-one
+
+-- none before i passes
+pub record Searching {A R : Type 0} (answer : List A → R) (l : List A) (count i : ℕ) : Type 0 where
+  pub place : Reached l count i
+  pub so-far : answer (prefix count l) ≡ answer (drop i (prefix count l))
+
+pub search-start : {A R : Type 0} {answer : List A → R} {l : List A} {count : ℕ} → count ≤ 32 → length l ≡ 32 → Searching answer l count 0
+search-start fits places = record { place = start fits places; so-far = refl }
+
+module _ {A R : Type 0} {test : A → Bool} {found : A → R} {none : R} {answer : List A → R} (s : Searches test found none answer) where
+  module _ {l : List A} {count i : ℕ} (at : Searching answer l count i) (d : A) where
+    pub search-end : count ≤ i → answer (prefix count l) ≡ none
+    search-end over = at .so-far ∙ search-as s d (drop i (prefix count l)) ∙ rw (any-end l count i test over)
+
+    module _ (more : i < count) {x : A} (here : x ≡ getD l i d) where
+      pub search-hit : test x ≡ true → answer (prefix count l) ≡ found x
+      search-hit e =
+          let p = at .place in
+          let hit : test (getD l i d) ≡ true = rw here at e in
+          at .so-far ∙ search-as s d (drop i (prefix count l))
+          ∙ rw (any-hit l count i d (omega arith) more test hit, first-hit l count i d (omega arith) more test d hit, here)
+
+      pub search-miss : test x ≡ false → Searching answer l count (i + 1)
+      search-miss e =
+          let p = at .place in
+          let miss : test (getD l i d) ≡ false = rw here at e in
+          record {
+            place = further p more;
+            so-far =
+                at .so-far ∙ search-as s d (drop i (prefix count l))
+                ∙ rw (any-miss l count i d (omega arith) more test miss, first-miss l count i d (omega arith) more test d miss)
+                (sym (search-as s d (drop (i + 1) (prefix count l))));
+          }
+
+-- ---- a change in place, and a removal in place
+
+-- the element at i is still that of the start, where nothing from i on is changed
+same-at : {A : Type 0} (l now : List A) (i : ℕ) (d : A) {x : A} → x ≡ getD now i d → drop i now ≡ drop i l → x ≡ getD l i d
+same-at l now i d here e = here ∙ sym (rw add-zero at (getD-drop i now 0 d)) ∙ rw e (rw add-zero at (getD-drop i l 0 d))
+
+-- those before i are changed, and nothing else
+pub record Changing {A : Type 0} (test : A → Bool) (f : A → A) (l now : List A) (count i : ℕ) : Type 0 where
+  pub place : Reached l count i
+  pub so-far : now ≡ changedTo test f i l
+
+pub changing-start : {A : Type 0} {test : A → Bool} {f : A → A} {l : List A} {count : ℕ} → count ≤ 32 → length l ≡ 32
+    → Changing test f l l count 0
+changing-start {test = test} {f = f} {l = l} fits places = record { place = start fits places; so-far = sym (change-start test f l) }
+
+module _ {A : Type 0} {test : A → Bool} {f : A → A} {l now : List A} {count i : ℕ} (at : Changing test f l now count i) where
+  pub changing-end : count ≤ i → prefix count now ≡ change test f (prefix count l)
+  changing-end over = let p = at .place in rw (at .so-far, last p over) (change-end test f l count (omega arith))
+
+  unchanged : drop i now ≡ drop i l
+  unfolding changedTo
+  unchanged =
+      let p = at .place in
+      rw (at .so-far) (drop-at (change test f (prefix i l)) (drop i l) i (length-change test f (prefix i l) ∙ length-prefix l i (omega arith)))
+
+  module _ (more : i < count) (d : A) {x : A} (here : x ≡ getD now i d) where
+    was : x ≡ getD l i d
+    was = same-at l now i d here unchanged
+
+    pub changing-hit : test x ≡ true → {y : A} {next : List A} → y ≡ f x → next ≡ set now i y → Changing test f l next count (i + 1)
+    changing-hit e new stored =
+        let p = at .place in
+        record {
+          place = further p more;
+          so-far = stored ∙ rw (at .so-far, new, was, change-hit test f l i d (omega arith) (rw was at e));
+        }
+
+    pub changing-miss : test x ≡ false → {next : List A} → next ≡ now → Changing test f l next count (i + 1)
+    changing-miss e kept =
+        let p = at .place in
+        record { place = further p more; so-far = kept ∙ at .so-far ∙ change-miss test f l i d (omega arith) (rw was at e) }
+
+-- the first j places hold what is kept of those before i, and those from i on are as they were
+pub record Keeping {A : Type 0} (test : A → Bool) (l now : List A) (count i j : ℕ) : Type 0 where
+  pub place : Reached l count i
+  pub behind : j ≤ i
+  pub room : length now ≡ 32
+  pub so-far : prefix j now ≡ keep test (prefix i l)
+  pub rest : drop i now ≡ drop i l
+
+pub keeping-start : {A : Type 0} {test : A → Bool} {l : List A} {count : ℕ} → count ≤ 32 → length l ≡ 32 → Keeping test l l count 0 0
+unfolding keep
+keeping-start fits places =
+    record { place = start fits places; behind = omega arith; room = places; so-far = rw prefix-none; rest = refl }
+
+module _ {A : Type 0} {test : A → Bool} {l now : List A} {count i j : ℕ} (at : Keeping test l now count i j) where
+  pub keeping-end : count ≤ i → Holds (keep test (prefix count l)) j now
+  keeping-end over =
+      let p = at .place in
+      record { held = rw (last p over) at (at .so-far); within = omega arith }
+
+  module _ (more : i < count) (d : A) {x : A} (here : x ≡ getD now i d) where
+    stood : x ≡ getD l i d
+    stood = same-at l now i d here (at .rest)
+
+    after : drop (i + 1) now ≡ drop (i + 1) l
+    after = sym (drop-drop 1 i now) ∙ rw (at .rest) (drop-drop 1 i l)
+
+    pub keeping-hit : test x ≡ true → {next : List A} {k : ℕ} → next ≡ set now j x → k ≡ j + 1 → Keeping test l next count (i + 1) k
+    keeping-hit e stored longer =
+        let p = at .place in
+        record {
+          place = further p more;
+          behind = omega arith;
+          room = rw (stored, length-set) (at .room);
+          so-far = rw (stored, longer, stood) (keep-hit test l i d (omega arith) now j (omega arith) (rw stood at e) (at .so-far));
+          rest = rw (stored, drop-set-lt (i + 1) now j x (omega arith)) after;
+        }
+
+    pub keeping-miss : test x ≡ false → {next : List A} {k : ℕ} → next ≡ now → k ≡ j → Keeping test l next count (i + 1) k
+    keeping-miss e kept same =
+        let p = at .place in
+        record {
+          place = further p more;
+          behind = omega arith;
+          room = rw kept (at .room);
+          so-far = rw (kept, same) (at .so-far ∙ keep-miss test l i d (omega arith) (rw stood at e));
+          rest = rw kept after;
+        }
+
+-- ---- one more at the end
+
+pub one-more : {A : Type 0} (l : List A) {now : List A} (count : ℕ) (x : A) → length l ≡ 32 → count < 32 → now ≡ set l count x
+    → prefix (count + 1) now ≡ prefix count l ++ (x ∷ [])
+one-more l count x places room stored = rw stored (stored-last l count x (omega arith))

@@ -1,0 +1,18 @@
+-- `authorities::is_clashing` meets its contract. Assumes nothing.
+use borrow.Author.Needs.{needs}
+use Rattle.rules.specs.Refusals.{clashes}
+use Rattle.authorities.proofs.is_clashing.Statement.{statement}
+use Rattle.authorities.proofs.is_clashing.Tie as tie
+
+overlap-requires : tie.Need-overlap-requires
+overlap-requires c κs = search needs
+
+is-twa-requires : tie.Need-is-twa-requires
+is-twa-requires c κs = search needs
+
+returns : tie.Need-returns
+unfolding clashes
+returns c = rw (c .before .before .before .overlap .ensures, c .before .before .is-twa .ensures)
+
+pub is-clashing-spec : {M : Type 1} → statement M
+is-clashing-spec = tie.close (tie.spec overlap-requires is-twa-requires returns)

@@ -1,0 +1,241 @@
+// The live authorities that a register holds, a dense prefix of the places in the order of their requests: searches, and changes that keep
+// their order.
+ghost use mathlib.Core.Path.{_≡_};
+ghost use mathlib.Core.List.{_++_, _∷_, []};
+ghost use Prim.Native.Nat.{_+_, _≤_, _<_};
+ghost use Rattle.lists.specs.Search.{any, keep, change};
+ghost use Rattle.lists.specs.Prefix.{prefix};
+ghost use Rattle.rules.specs.Board.{exclusive, isLpa, isToa, isTwa, isAuthority, isNotAuthority};
+ghost use Rattle.rules.specs.Refusals.{clashes, inForceNeeds};
+ghost use Rattle.places.specs.Places.{authoritiesIn};
+ghost use Rattle.authorities.specs.Authorities.{foundIn, isIn, holdsPortion, changeOf};
+ghost use Rattle.authorities.specs.Places.{Holds};
+use places::authority_at;
+use places::put_authority;
+use rules::Authority;
+use rules::AuthorityNo;
+use rules::Gate;
+use rules::Kind;
+
+pub enum Found {
+    Is(Authority),
+    Nothing,
+}
+
+// What becomes of an authority.
+pub enum Change {
+    Granted,
+    Site(bool),
+    Officer(u16),
+    Agreed(AuthorityNo),
+    Term(u32, u16),
+}
+
+pub fn is_exclusive(kind: Kind) -> bool
+    ensures { λ r. ⌜ r ≡ exclusive kind ⌝ }
+{
+    match kind {
+        Kind::Lpa => true,
+        Kind::Toa => true,
+        Kind::Twa => false,
+    }
+}
+
+pub fn is_lpa(kind: Kind) -> bool
+    ensures { λ r. ⌜ r ≡ isLpa kind ⌝ }
+{
+    match kind {
+        Kind::Lpa => true,
+        Kind::Toa => false,
+        Kind::Twa => false,
+    }
+}
+
+pub fn is_toa(kind: Kind) -> bool
+    ensures { λ r. ⌜ r ≡ isToa kind ⌝ }
+{
+    match kind {
+        Kind::Lpa => false,
+        Kind::Toa => true,
+        Kind::Twa => false,
+    }
+}
+
+pub fn is_twa(kind: Kind) -> bool
+    ensures { λ r. ⌜ r ≡ isTwa kind ⌝ }
+{
+    match kind {
+        Kind::Lpa => false,
+        Kind::Toa => false,
+        Kind::Twa => true,
+    }
+}
+
+// Refusal 13: x is in force, another than a and old, and shares a portion with a, and a is no TWA that has x as its agreed TOA.
+fn is_clashing(old: AuthorityNo, a: Authority, x: Authority) -> bool
+    ensures { λ r. ⌜ r ≡ clashes (old .0) a x ⌝ }
+{
+    let kind = a.kind;
+    x.in_force
+        & (x.number.0 != a.number.0)
+        & (x.number.0 != old.0)
+        & portions::overlap(a.limits, x.limits)
+        & !(is_twa(kind) & (x.number.0 == a.agreed.0))
+}
+
+// The authority with that number.
+pub fn find(authorities: &[u64; 256], live: usize, n: AuthorityNo) -> Found
+    requires { ⌜ live ≤ 32 ⌝ }
+    ensures { λ f. ⌜ f ≡ foundIn (isAuthority (n .0)) (prefix live (authoritiesIn (now (authorities .entry)))) ⌝ }
+{
+    let mut i: usize = 0;
+    while i < live {
+        let a = authority_at(authorities, i);
+        if a.number.0 == n.0 {
+            return Found::Is(a);
+        }
+        i += 1;
+    }
+    Found::Nothing
+}
+
+// x is in force, its limits hold the portion, and it is exclusive, or is not, as is said.
+fn is_holding(x: Authority, p: u16, exclusively: bool) -> bool
+    ensures { λ r. ⌜ r ≡ holdsPortion exclusively p x ⌝ }
+{
+    let kind = x.kind;
+    if exclusively {
+        x.in_force & is_exclusive(kind) & portions::has(x.limits, p)
+    } else {
+        x.in_force & is_twa(kind) & portions::has(x.limits, p)
+    }
+}
+
+// E, where exclusively is true, or W: the exclusive authority or the TWA in force whose limits hold the portion.
+pub fn find_holding(authorities: &[u64; 256], live: usize, p: u16, exclusively: bool) -> Found
+    requires { ⌜ live ≤ 32 ⌝ }
+    ensures { λ f. ⌜ f ≡ foundIn (holdsPortion exclusively p) (prefix live (authoritiesIn (now (authorities .entry)))) ⌝ }
+{
+    let mut i: usize = 0;
+    while i < live {
+        let x = authority_at(authorities, i);
+        if is_holding(x, p, exclusively) {
+            return Found::Is(x);
+        }
+        i += 1;
+    }
+    Found::Nothing
+}
+
+// Refusal 13 for a: another in force shares a portion, old not counted.
+pub fn is_overlapped(authorities: &[u64; 256], live: usize, old: AuthorityNo, a: Authority) -> bool
+    requires { ⌜ live ≤ 32 ⌝ }
+    ensures { λ r. ⌜ r ≡ any (clashes (old .0) a) (prefix live (authoritiesIn (now (authorities .entry)))) ⌝ }
+{
+    let mut i: usize = 0;
+    while i < live {
+        let x = authority_at(authorities, i);
+        if is_clashing(old, a, x) {
+            return true;
+        }
+        i += 1;
+    }
+    false
+}
+
+// Refusal 16 for the gate: an authority in force needs it.
+pub fn is_still_needed(authorities: &[u64; 256], live: usize, gate: Gate) -> bool
+    requires { ⌜ live ≤ 32 ⌝ }
+    ensures { λ r. ⌜ r ≡ any (inForceNeeds gate) (prefix live (authoritiesIn (now (authorities .entry)))) ⌝ }
+{
+    let mut i: usize = 0;
+    while i < live {
+        let x = authority_at(authorities, i);
+        if x.in_force & plan::is_needed(x.limits, gate) {
+            return true;
+        }
+        i += 1;
+    }
+    false
+}
+
+pub fn is_found(f: Found) -> bool
+    ensures { λ r. ⌜ r ≡ isIn f ⌝ }
+{
+    match f {
+        Found::Is(_) => true,
+        Found::Nothing => false,
+    }
+}
+
+// The authority changed.
+fn changed(c: Change, a: Authority) -> Authority
+    ensures { λ r. ⌜ r ≡ changeOf c a ⌝ }
+{
+    let mut x = a;
+    match c {
+        Change::Granted => {
+            x.in_force = true;
+            x.workers_on = true;
+            x
+        }
+        Change::Site(on) => {
+            x.workers_on = on;
+            x
+        }
+        Change::Officer(officer) => {
+            x.officer = officer;
+            x
+        }
+        Change::Agreed(toa) => {
+            x.agreed = toa;
+            x
+        }
+        Change::Term(start, length) => {
+            x.start = start;
+            x.length = length;
+            x
+        }
+    }
+}
+
+// Changes the authority with that number.
+pub fn amend(authorities: &mut [u64; 256], live: usize, n: AuthorityNo, c: Change)
+    requires { ⌜ live ≤ 32 ⌝ }
+    ensures { λ _. ⌜ prefix live (authoritiesIn (now (authorities .exit))) ≡ change (isAuthority (n .0)) (changeOf c) (prefix live (authoritiesIn (now (authorities .entry)))) ⌝ }
+{
+    let mut i: usize = 0;
+    while i < live {
+        let x = authority_at(authorities, i);
+        if x.number.0 == n.0 {
+            put_authority(authorities, i, changed(c, x));
+        }
+        i += 1;
+    }
+}
+
+// Takes out the authority with that number, and answers how many are left; the order of the others stays.
+pub fn end_authority(authorities: &mut [u64; 256], live: usize, n: AuthorityNo) -> usize
+    requires { ⌜ live ≤ 32 ⌝ }
+    ensures { λ left. ⌜ Holds (keep (isNotAuthority (n .0)) (prefix live (authoritiesIn (now (authorities .entry))))) left (authoritiesIn (now (authorities .exit))) ⌝ }
+{
+    let mut i: usize = 0;
+    let mut j: usize = 0;
+    while i < live {
+        let x = authority_at(authorities, i);
+        if x.number.0 != n.0 {
+            put_authority(authorities, j, x);
+            j += 1;
+        }
+        i += 1;
+    }
+    j
+}
+
+// One more authority, at the end.
+pub fn add_authority(authorities: &mut [u64; 256], live: usize, a: Authority)
+    requires { ⌜ live < 32 ⌝ }
+    ensures { λ _. ⌜ prefix (live + 1) (authoritiesIn (now (authorities .exit))) ≡ prefix live (authoritiesIn (now (authorities .entry))) ++ (a ∷ []) ⌝ }
+{
+    put_authority(authorities, live, a);
+}

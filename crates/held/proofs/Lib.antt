@@ -1,4 +1,0 @@
--- The laws of the searches that the crates above cite, and, not public, those of the loops over the places.
-pub mod AuthorityLaws
-pub mod TrainLaws
-mod Loops

@@ -1,0 +1,2 @@
+-- The laws of the searches that the crates above cite.
+pub mod TrainLaws

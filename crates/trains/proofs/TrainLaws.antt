@@ -1,0 +1,63 @@
+-- What the answer of a search over the trains says, and what each query asks, in the rules' words. Assumes nothing.
+use Prim.Native.Nat.{ℕ}
+use mathlib.Core.Path.{_≡_, refl, sym, ap, fun-ext, _∙_}
+use mathlib.Core.Bool.{Bool, true, false, cond, or-false, and-assoc, and-or-distrib-left, and-or-distrib-right}
+use mathlib.Core.List.{List, [], _∷_}
+use Rattle.lists.specs.Search.{any, first}
+use Rattle.lists.specs.Prefix.{prefix}
+use Rattle.rules.specs.declared.AuthorityNo.{AuthorityNo}
+use Rattle.rules.specs.declared.TrainNo.{TrainNo}
+use Rattle.rules.specs.declared.Authority.{Authority}
+use Rattle.rules.specs.declared.Train.{Train}
+use Rattle.rules.specs.Board.{noTrain, touches, touchesPortion}
+use Rattle.rules.specs.Refusals.{inTheWay, isOtherAt}
+use Rattle.trains.specs.declared.TrainQuery.{TrainQuery}
+use Rattle.trains.specs.declared.TrainQuery.the-variants.{Touching, InTheWay, OtherAt}
+use Rattle.trains.specs.declared.FoundTrain.the-variants.{Is, Nothing}
+use Rattle.trains.specs.Trains.{endPasses, trainPasses, foundTrain}
+use Rattle.authorities.proofs.Loops.{Searches, search-as}
+
+-- ---- the train found, by the searches of the rules
+
+-- the answer is the first that passes, where some does
+pub train-searches : (test : Train → Bool) → Searches test Is Nothing (foundTrain test)
+unfolding foundTrain
+train-searches test = record { of-none = refl; of-one = λ t ts. refl }
+
+-- the one found is the first that passes
+is-step : (b : Bool) (t x : Train) → cond b (Is t) Nothing ≡ Is x → (b ≡ true) × (t ≡ x)
+is-step true t x e = (refl, cc)
+is-step false t x e = (cc, cc)
+
+pub train-is : (test : Train → Bool) (l : List Train) (t : Train) → foundTrain test l ≡ Is t → (any test l ≡ true) × (first test noTrain l ≡ t)
+train-is test l t e = is-step (any test l) (first test noTrain l) t (sym (search-as (train-searches test) noTrain l) ∙ e)
+
+-- where none is found, none passes
+none-step : (b : Bool) (t : Train) → cond b (Is t) Nothing ≡ Nothing → b ≡ false
+none-step true t e = cc
+none-step false t e = refl
+
+pub train-none : (test : Train → Bool) (l : List Train) → foundTrain test l ≡ Nothing → any test l ≡ false
+train-none test l e = none-step (any test l) (first test noTrain l) (sym (search-as (train-searches test) noTrain l) ∙ e)
+
+-- ---- what each query asks
+
+-- a train that touches the set
+pub any-touching : (set : ℕ) (ts : List Train) → any (trainPasses (Touching set)) ts ≡ any (touches set) ts
+unfolding trainPasses endPasses touches
+any-touching set ts = refl
+
+-- a train in the way of a CONTINUE
+pub any-in-the-way : (old : AuthorityNo) (a : Authority) (ts : List Train) → any (trainPasses (InTheWay old a)) ts ≡ any (inTheWay (old .0) a) ts
+unfolding trainPasses endPasses inTheWay touches
+any-in-the-way old a ts = ap (λ (test : Train → Bool). any test ts) (fun-ext (λ t. rw and-or-distrib-right))
+
+-- another train that touches the portion
+pub any-other-at : (n : TrainNo) (p : ℕ) (ts : List Train) → any (trainPasses (OtherAt n p)) ts ≡ any (isOtherAt (n .0) p) ts
+unfolding trainPasses endPasses isOtherAt touchesPortion
+any-other-at n p ts = ap (λ (test : Train → Bool). any test ts) (fun-ext (λ t. simp (and-assoc, and-or-distrib-left)))
+
+-- a train passes where one of its ends, head and rear, does
+pub either-end : (q : TrainQuery) (t : Train) → trainPasses q t ≡ any (endPasses q t) (prefix 2 (t .head ∷ t .rear ∷ []))
+unfolding trainPasses any prefix
+either-end q t = rw or-false

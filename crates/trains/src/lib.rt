@@ -1,0 +1,189 @@
+// The trains on the board: a dense prefix of the places, in the order in which they came.
+ghost use mathlib.Core.Path.{_≡_};
+ghost use mathlib.Core.List.{_++_, _∷_, []};
+ghost use Prim.Native.Nat.{_+_, _≤_, _<_};
+ghost use Rattle.lists.specs.Search.{any, keep, change};
+ghost use Rattle.lists.specs.Prefix.{prefix};
+ghost use Rattle.rules.specs.Board.{isTrain, isNotTrain};
+ghost use Rattle.places.specs.Places.{trainsIn};
+ghost use Rattle.trains.specs.Trains.{endPasses, trainPasses, foundTrain, trainTest, trainChange};
+ghost use Rattle.authorities.specs.Places.{Holds};
+use authorities::is_twa;
+use places::put_train;
+use places::train_at;
+use rules::Authority;
+use rules::AuthorityNo;
+use rules::Train;
+use rules::TrainNo;
+
+// What is looked for among the trains, at their head or their rear.
+pub enum TrainQuery {
+    // one that touches the set of portions
+    Touching(u64),
+    // one in the way of a CONTINUE from the first authority to the second (refusal 12)
+    InTheWay(AuthorityNo, Authority),
+    // another than the train that touches the portion
+    OtherAt(TrainNo, u16),
+}
+
+pub enum FoundTrain {
+    Is(Train),
+    Nothing,
+}
+
+// What becomes of trains.
+pub enum TrainChange {
+    // the head of the train goes to the portion, with the authority
+    Head(TrainNo, u16, AuthorityNo),
+    // the rear of the train comes to its head
+    RearIn(TrainNo),
+    // trains with the authority are with none
+    Freed(AuthorityNo),
+    // trains with the first authority are with the second where their head is in the limits, else with none
+    Continued(AuthorityNo, AuthorityNo, u64),
+}
+
+// The train is what is looked for by its end (its head or its rear).
+fn passes_at(q: TrainQuery, t: Train, end: u16) -> bool
+    ensures { λ r. ⌜ r ≡ endPasses q t end ⌝ }
+{
+    match q {
+        TrainQuery::Touching(set) => portions::has(set, end),
+        TrainQuery::InTheWay(old, a) => is_in_the_way(old, a, t, end),
+        TrainQuery::OtherAt(n, p) => (t.number.0 != n.0) & (p != 99) & (end == p),
+    }
+}
+
+// The end is in the limits of the new authority, and it is a TWA, or the train isn't with old, or its head isn't in them.
+fn is_in_the_way(old: AuthorityNo, a: Authority, t: Train, end: u16) -> bool
+    ensures { λ r. ⌜ r ≡ endPasses (TrainQuery.InTheWay old a) t end ⌝ }
+{
+    let kind = a.kind;
+    portions::has(a.limits, end)
+        & (is_twa(kind) | (t.with.0 != old.0) | !portions::has(a.limits, t.head))
+}
+
+// The train with that number; the search is left when it is found.
+pub fn find_train(trains: &[u16; 128], running: usize, n: TrainNo) -> FoundTrain
+    requires { ⌜ running ≤ 32 ⌝ }
+    ensures { λ f. ⌜ f ≡ foundTrain (isTrain (n .0)) (prefix running (trainsIn (now (trains .entry)))) ⌝ }
+{
+    let mut found = FoundTrain::Nothing;
+    let mut i: usize = 0;
+    'search: while i < running {
+        let t = train_at(trains, i);
+        if t.number.0 == n.0 {
+            found = FoundTrain::Is(t);
+            break 'search;
+        }
+        i += 1;
+    }
+    found
+}
+
+// A train is what is looked for: the search goes over the trains and their head and rear, and is left when one is found.
+pub fn is_met(trains: &[u16; 128], running: usize, q: TrainQuery) -> bool
+    requires { ⌜ running ≤ 32 ⌝ }
+    ensures { λ r. ⌜ r ≡ any (trainPasses q) (prefix running (trainsIn (now (trains .entry)))) ⌝ }
+{
+    let mut met = false;
+    let mut i: usize = 0;
+    'search: while i < running {
+        let t = train_at(trains, i);
+        let ends = [t.head, t.rear];
+        let mut k: usize = 0;
+        while k < 2 {
+            if passes_at(q, t, ends[k]) {
+                met = true;
+                break 'search;
+            }
+            k += 1;
+        }
+        i += 1;
+    }
+    met
+}
+
+// The train is one that changes.
+fn is_changed(c: TrainChange, t: Train) -> bool
+    ensures { λ r. ⌜ r ≡ trainTest c t ⌝ }
+{
+    match c {
+        TrainChange::Head(n, _, _) => t.number.0 == n.0,
+        TrainChange::RearIn(n) => t.number.0 == n.0,
+        TrainChange::Freed(n) => t.with.0 == n.0,
+        TrainChange::Continued(old, _, _) => t.with.0 == old.0,
+    }
+}
+
+// The train changed.
+fn changed_train(c: TrainChange, t: Train) -> Train
+    ensures { λ r. ⌜ r ≡ trainChange c t ⌝ }
+{
+    let mut x = t;
+    let none = AuthorityNo(0);
+    match c {
+        TrainChange::Head(_, to, n) => {
+            x.head = to;
+            x.with = n;
+            x
+        }
+        TrainChange::RearIn(_) => {
+            x.rear = t.head;
+            x
+        }
+        TrainChange::Freed(_) => {
+            x.with = none;
+            x
+        }
+        TrainChange::Continued(_, new, limits) => {
+            if portions::has(limits, t.head) {
+                x.with = new;
+            } else {
+                x.with = none;
+            }
+            x
+        }
+    }
+}
+
+// Changes each train that the change is for.
+pub fn change_trains(trains: &mut [u16; 128], running: usize, c: TrainChange)
+    requires { ⌜ running ≤ 32 ⌝ }
+    ensures { λ _. ⌜ prefix running (trainsIn (now (trains .exit))) ≡ change (trainTest c) (trainChange c) (prefix running (trainsIn (now (trains .entry)))) ⌝ }
+{
+    let mut i: usize = 0;
+    while i < running {
+        let t = train_at(trains, i);
+        if is_changed(c, t) {
+            put_train(trains, i, changed_train(c, t));
+        }
+        i += 1;
+    }
+}
+
+// Takes the train with that number off, and answers how many are left; the order of the others stays.
+pub fn remove_train(trains: &mut [u16; 128], running: usize, n: TrainNo) -> usize
+    requires { ⌜ running ≤ 32 ⌝ }
+    ensures { λ left. ⌜ Holds (keep (isNotTrain (n .0)) (prefix running (trainsIn (now (trains .entry))))) left (trainsIn (now (trains .exit))) ⌝ }
+{
+    let mut i: usize = 0;
+    let mut j: usize = 0;
+    while i < running {
+        let t = train_at(trains, i);
+        if t.number.0 != n.0 {
+            put_train(trains, j, t);
+            j += 1;
+        }
+        i += 1;
+    }
+    j
+}
+
+// One more train, at the end.
+pub fn add_train(trains: &mut [u16; 128], running: usize, t: Train)
+    requires { ⌜ running < 32 ⌝ }
+    ensures { λ _. ⌜ prefix (running + 1) (trainsIn (now (trains .exit))) ≡ prefix running (trainsIn (now (trains .entry))) ++ (t ∷ []) ⌝ }
+{
+    put_train(trains, running, t);
+}
