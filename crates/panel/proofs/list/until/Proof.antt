@@ -1,0 +1,49 @@
+-- `panel::list::until` meets its contract: the place stays within the text, and the measure is how many bytes are left.
+use Prim.Native.Nat.{_≤_, _-_}
+use borrow.Author.Needs.{needs}
+use lib.ListN.{length}
+use Rattle.panel.proofs.list.until.Statement.{statement}
+use Rattle.panel.proofs.list.until.Tie as tie
+use Rattle.panel.proofs.list.until.Reads as reads
+use Rattle.panel.proofs.list.until.Lts as lts
+
+abbrev Inv-loop : tie.InvT-loop
+Inv-loop text mark at₀ at = at ≤ length text
+
+abbrev μ-loop : tie.MeasureT-loop
+μ-loop text mark at₀ at = length text - at
+
+loop-holds : tie.Need-loop-holds Inv-loop μ-loop
+loop-holds c = search needs
+
+shared-slice-read-if1 : tie.Need-shared-slice-read-if1 Inv-loop μ-loop
+shared-slice-read-if1 c = search needs
+
+returns : tie.Need-returns Inv-loop μ-loop
+returns c = search needs
+
+add-at : tie.Need-add-at Inv-loop μ-loop
+add-at c = search needs
+
+loop-less : tie.Need-loop-less Inv-loop μ-loop
+loop-less c = search needs
+
+loop-again : tie.Need-loop-again Inv-loop μ-loop
+loop-again c = search needs
+
+returns-2 : tie.Need-returns-2 Inv-loop μ-loop
+returns-2 c = search needs
+
+pub until-spec : {M : Type 1} → statement M
+until-spec =
+    tie.close
+    (tie.spec
+    Inv-loop
+    μ-loop
+    loop-holds
+    shared-slice-read-if1
+    returns
+    add-at
+    loop-less
+    loop-again
+    returns-2)
