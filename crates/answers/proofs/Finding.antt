@@ -13,7 +13,7 @@ use Rattle.rules.specs.Refusals.{Refusal, _when_, lowest, notLive}
 use Rattle.authorities.specs.declared.Found.{Found}
 use Rattle.authorities.specs.declared.Found.the-variants.{Is, Nothing}
 use Rattle.authorities.specs.Authorities.{foundIn}
-use Rattle.authorities.proofs.AuthorityLaws.{found-none, found-is}
+use Rattle.authorities.proofs.AuthorityLaws.{not-found, found}
 
 -- ---- the first refusal that holds
 
@@ -43,15 +43,6 @@ of-call e f = sym e ∙ f
 pub ruleset refusals = (holds, fails, none, not-of-false, not-of-true, of-call, eq-eqb, ne-eqb)
 
 -- ---- the authority with a number, looked for
-
-module _ (r : Register) (n : ℕ) {f : Found} (e : f ≡ foundIn (isAuthority n) (prefix (r .live) (r .authorities))) where
-  pub not-found : f ≡ Nothing → notLive (boardOf r) n ≡ true
-  unfolding notLive live boardOf
-  not-found none′ = rw (found-none _ _ (sym e ∙ none′))
-
-  pub found : {a : Authority} → f ≡ Is a → (notLive (boardOf r) n ≡ false) × (authority (boardOf r) n ≡ a)
-  unfolding notLive live authority boardOf
-  found is = let h = found-is _ _ (sym e ∙ is) in (rw (h .0), h .1)
 
 -- a call that names it alone is answered 5 where it is not live, else by its other refusals, of the authority found
 module _ (r : Register) (n : ℕ) (rs : List Refusal) {f : Found} (e : f ≡ foundIn (isAuthority n) (prefix (r .live) (r .authorities))) where

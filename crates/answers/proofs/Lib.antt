@@ -1,3 +1,2 @@
--- The laws that the proofs of this crate's functions and of those above it cite.
-pub mod Conditions
-pub mod Finding
+-- The laws that the proofs of this crate's functions cite.
+mod Finding

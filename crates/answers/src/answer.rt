@@ -2,8 +2,6 @@
 ghost use mathlib.Core.Path.{_≡_};
 ghost use Rattle.rules.specs.Refusals.{lowest, requestRefusals, withdrawRefusals, agreeRefusals, blockRefusals, unblockRefusals, grantRefusals, clearRefusals, reoccupyRefusals, handOverRefusals, fulfilRefusals, continueRefusals, own};
 ghost use Rattle.places.specs.Places.{HeadBounds, boardIn};
-ghost use Rattle.answers.specs.Faults.{faultOf};
-use crate::condition::gate_at;
 use crate::condition::is_full;
 use crate::condition::is_still_needed;
 use crate::decide::decide_agree;
@@ -17,10 +15,8 @@ use crate::decide::decide_withdraw;
 use crate::movement::answer_move;
 use crate::movement::answer_passed;
 use crate::refusal::ALREADY_SO;
-use crate::refusal::FIELD;
 use crate::refusal::FULL;
 use crate::refusal::NO_FACILITY;
-use crate::refusal::NO_SUCH_CALL;
 use crate::refusal::NOT_LIVE;
 use crate::refusal::STILL_NEEDED;
 use crate::terms::answer_term;
@@ -98,7 +94,7 @@ fn answer_block(
     if portions::has(head.blocks, g.0) {
         return ALREADY_SO;
     }
-    let gate = gate_at(head, gates, authorities, trains, g);
+    let gate = plan::gate_at(gates, head.gate_count, g);
     if gate.kind == 4 {
         return NO_FACILITY;
     }
@@ -244,17 +240,6 @@ fn answer_continue(
         officer_old,
         officer_new,
     )
-}
-
-// 2 or 3 where the seven numbers are no call, else 0.
-pub fn fault_of(c: Call) -> u16
-    ensures { λ x. ⌜ x ≡ faultOf c ⌝ }
-{
-    match c {
-        Call::NoSuchCall => NO_SUCH_CALL,
-        Call::BadField => FIELD,
-        _ => 0,
-    }
 }
 
 // The lowest of the call's own refusals, from 5 on, whose condition holds, or 0. `s` has the call's stamp.

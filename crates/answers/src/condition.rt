@@ -1,51 +1,12 @@
 // The conditions that several calls share, each as one search or test.
 ghost use mathlib.Core.Path.{_≡_};
-ghost use Rattle.rules.specs.Board.{gateAt};
-ghost use Rattle.rules.specs.Refusals.{early, full, unprotected, occupied, occupiedBeside, overlaps, stillNeeded};
+ghost use Rattle.rules.specs.Refusals.{full, unprotected, occupied, occupiedBeside, overlaps, stillNeeded};
 ghost use Rattle.places.specs.Places.{HeadBounds, boardIn};
 use places::Head;
 use rules::Authority;
 use rules::AuthorityNo;
-use rules::Gate;
 use rules::GateNo;
-use rules::Seven;
 use trains::TrainQuery;
-
-// The gate with that number.
-pub fn gate_at(
-    head: Head,
-    gates: &[u16; 192],
-    authorities: &[u64; 256],
-    trains: &[u16; 128],
-    g: GateNo,
-) -> Gate
-    requires { ⌜ HeadBounds head ⌝ }
-    ensures { λ x. ⌜ x ≡ gateAt ((boardIn head (now (gates .entry)) (now (authorities .entry)) (now (trains .entry))) .gates) (g .0) ⌝ }
-{
-    let i = g.0 as usize;
-    if i < head.gate_count {
-        places::gate_at(gates, i)
-    } else {
-        Gate {
-            from: 0,
-            to: 0,
-            kind: 0,
-        }
-    }
-}
-
-// 4: the stamp is before that of the last accepted call.
-pub fn is_early(
-    head: Head,
-    gates: &[u16; 192],
-    authorities: &[u64; 256],
-    trains: &[u16; 128],
-    s: Seven,
-) -> bool
-    ensures { λ x. ⌜ x ≡ early (boardIn head (now (gates .entry)) (now (authorities .entry)) (now (trains .entry))) s ⌝ }
-{
-    (s.day < head.day) | ((s.day == head.day) & (s.time < head.time))
-}
 
 // 9: 32 held, or 9999 allotted.
 pub fn is_full(
@@ -129,6 +90,6 @@ pub fn is_still_needed(
     requires { ⌜ HeadBounds head ⌝ }
     ensures { λ x. ⌜ x ≡ stillNeeded (boardIn head (now (gates .entry)) (now (authorities .entry)) (now (trains .entry))) (g .0) ⌝ }
 {
-    let gate = gate_at(head, gates, authorities, trains, g);
+    let gate = plan::gate_at(gates, head.gate_count, g);
     authorities::is_still_needed(authorities, head.live, gate)
 }

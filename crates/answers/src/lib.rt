@@ -7,6 +7,3 @@ pub mod refusal;
 mod terms;
 
 pub use answer::answer_of;
-pub use answer::fault_of;
-pub use condition::gate_at;
-pub use condition::is_early;

@@ -5,7 +5,6 @@ ghost use Rattle.rules.specs.Refusals.{lowest, isE, isW, noRoom, taken, workedO
 ghost use Rattle.lists.specs.Prefix.{prefix};
 ghost use Rattle.places.specs.Places.{HeadBounds, authoritiesIn, boardIn};
 ghost use Rattle.authorities.specs.Authorities.{foundIn};
-use crate::condition::gate_at;
 use crate::refusal::ALREADY_SO;
 use crate::refusal::BLOCKED;
 use crate::refusal::FULL;
@@ -186,7 +185,7 @@ pub fn answer_move(
     requires { ⌜ HeadBounds head ⌝ }
     ensures { λ x. ⌜ x ≡ lowest (moveRefusals (boardIn head (now (gates .entry)) (now (authorities .entry)) (now (trains .entry))) (t .0) (g .0) (gateAt ((boardIn head (now (gates .entry)) (now (authorities .entry)) (now (trains .entry))) .gates) (g .0)) (n .0) officer) ⌝ }
 {
-    let gate = gate_at(head, gates, authorities, trains, g);
+    let gate = plan::gate_at(gates, head.gate_count, g);
     let e = authorities::find_holding(authorities, head.live, gate.to, true);
     let w = authorities::find_holding(authorities, head.live, gate.to, false);
     decide_move(

@@ -25,10 +25,10 @@ use Rattle.rules.proofs.Once.{once-after}
 use Rattle.places.specs.declared.whole.Head.{Head}
 use Rattle.places.specs.Places.{HeadBounds, boardIn}
 use Rattle.board.specs.Lent.{TakePost}
-use Rattle.answers.specs.Faults.{faultOf}
+use Rattle.board.specs.Faults.{faultOf}
 use Rattle.board.specs.Steps.{withRoom}
 use Rattle.effects.specs.Effects.{EffectPost}
-use Rattle.answers.proofs.Conditions.{gates-in-use}
+use Rattle.places.proofs.Registers.{gates-in-use}
 
 -- ---- what the decoded call says of the answer
 

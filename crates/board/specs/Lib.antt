@@ -1,3 +1,4 @@
 -- What the contracts of this crate cite beside the rules.
 pub mod Lent
 pub mod Steps
+pub mod Faults

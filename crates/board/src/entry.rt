@@ -5,14 +5,16 @@ ghost use Prim.Native.Nat.{_≤_};
 ghost use lib.ListN.{length, drop};
 ghost use Rattle.rules.specs.Journal.{journalLine};
 ghost use Rattle.rules.specs.Call.{decoded};
+ghost use Rattle.rules.specs.Refusals.{early};
 ghost use Rattle.rules.specs.Step.{Kept, OpenPost, CallPost};
 ghost use Rattle.places.specs.Places.{HeadBounds, registerIn, boardIn};
 ghost use Rattle.board.specs.Lent.{TakePost};
+ghost use Rattle.board.specs.Faults.{faultOf};
 ghost use Rattle.board.specs.Steps.{freshWith, withRoom};
 use answers::answer_of;
-use answers::fault_of;
-use answers::is_early;
 use answers::refusal::CLOCK;
+use answers::refusal::FIELD;
+use answers::refusal::NO_SUCH_CALL;
 use answers::refusal::PLAN;
 use answers::refusal::SHORT_LINE;
 use effects::effect_of;
@@ -83,6 +85,30 @@ pub fn open(text: &[u8]) -> Opened
         register,
         answer: PLAN,
     }
+}
+
+// 2 or 3 where the seven numbers are no call, else 0.
+fn fault_of(c: Call) -> u16
+    ensures { λ x. ⌜ x ≡ faultOf c ⌝ }
+{
+    match c {
+        Call::NoSuchCall => NO_SUCH_CALL,
+        Call::BadField => FIELD,
+        _ => 0,
+    }
+}
+
+// 4: the stamp is before that of the last accepted call.
+fn is_early(
+    head: Head,
+    gates: &[u16; 192],
+    authorities: &[u64; 256],
+    trains: &[u16; 128],
+    s: Seven,
+) -> bool
+    ensures { λ x. ⌜ x ≡ early (boardIn head (now (gates .entry)) (now (authorities .entry)) (now (trains .entry))) s ⌝ }
+{
+    (s.day < head.day) | ((s.day == head.day) & (s.time < head.time))
 }
 
 // The answer to a call that has room for its line.

@@ -37,7 +37,7 @@ use Rattle.authorities.proofs.AuthorityLaws.{found-none}
 use Rattle.trains.proofs.TrainLaws.{train-none}
 use Rattle.places.specs.Places.{boardIn}
 use Rattle.effects.specs.Effects.{EffectPost, HasRoom}
-use Rattle.answers.proofs.Conditions.{authorities-in-use, trains-in-use}
+use Rattle.places.proofs.Registers.{authorities-in-use, trains-in-use}
 
 -- ---- a call that changes the last number, the blocks, the authorities or the trains
 

@@ -6,7 +6,6 @@ ghost use Rattle.rules.specs.Board.{isOutside, authority, train};
 ghost use Rattle.rules.specs.Refusals.{lowest, own};
 ghost use Rattle.places.specs.Places.{HeadBounds, registerIn, boardIn};
 ghost use Rattle.effects.specs.Effects.{EffectPost, HasRoom};
-use answers::gate_at;
 use authorities::Change;
 use authorities::Found;
 use decode::minute_of;
@@ -250,7 +249,7 @@ fn move_train(
     requires { ⌜ HeadBounds head × HasRoom (registerIn head (now gates) (now authorities) (now trains)) (g .0) ⌝ }
     ensures { λ out. ⌜ EffectPost (registerIn head (now (gates .entry)) (now (authorities .entry)) (now (trains .entry))) (Call.Move t g n officer) (registerIn out (now (gates .entry)) (now (authorities .exit)) (now (trains .exit))) ⌝ }
 {
-    let gate = gate_at(head, gates, authorities, trains, g);
+    let gate = plan::gate_at(gates, head.gate_count, g);
     let mut out = head;
     if gate.from == 99 {
         let entered = Train {

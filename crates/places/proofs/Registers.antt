@@ -1,8 +1,11 @@
 -- What a head and three arrays tell of the register that they stand for. Assumes nothing.
-use Prim.Native.Nat.{ℕ}
+use Prim.Native.Nat.{ℕ, _≤_}
+use native.Mathlib.Omega.{arith}
 use mathlib.Core.Path.{_≡_}
 use mathlib.Core.List.{List}
 use lib.ListN.{length}
+use Rattle.lists.specs.Prefix.{prefix}
+use Rattle.lists.proofs.Prefix.{length-prefix}
 use Rattle.rules.specs.declared.Register.{Register}
 use Rattle.rules.specs.Step.{Bounds}
 use Rattle.places.specs.declared.whole.Head.{Head}
@@ -33,3 +36,18 @@ module _ (h : Head) (g a t : List ℕ) where
 
   pub head-bounds : Bounds (registerIn h g a t) → HeadBounds h
   head-bounds b = record { portions = b .portions; gates = b .gates; live = b .live; running = b .running }
+
+-- ---- the places in use of each array are as many as the head says
+
+in-use : {A : Type 0} (l : List A) (count most : ℕ) → length l ≡ most → count ≤ most → length (prefix count l) ≡ count
+in-use l count most places h = length-prefix l count (omega arith)
+
+module _ {h : Head} (b : HeadBounds h) (l : List ℕ) where
+  pub gates-in-use : length (prefix (h .«gate_count») (gatesIn l)) ≡ h .«gate_count»
+  gates-in-use = in-use (gatesIn l) (h .«gate_count») 64 (gates-length l) (b .gates)
+
+  pub authorities-in-use : length (prefix (h .live) (authoritiesIn l)) ≡ h .live
+  authorities-in-use = in-use (authoritiesIn l) (h .live) 32 (authorities-length l) (b .live)
+
+  pub trains-in-use : length (prefix (h .running) (trainsIn l)) ≡ h .running
+  trains-in-use = in-use (trainsIn l) (h .running) 32 (trains-length l) (b .running)

@@ -9,10 +9,12 @@ use Rattle.rules.specs.declared.AuthorityNo.{AuthorityNo}
 use Rattle.rules.specs.declared.TrainNo.{TrainNo}
 use Rattle.rules.specs.declared.Authority.{Authority}
 use Rattle.rules.specs.declared.Train.{Train}
-use Rattle.rules.specs.Board.{noTrain, touches, touchesPortion}
+use Rattle.rules.specs.declared.Register.{Register}
+use Rattle.rules.specs.Board.{Board, boardOf, noTrain, isTrain, onBoard, train, touches, touchesPortion}
 use Rattle.rules.specs.Refusals.{inTheWay, isOtherAt}
 use Rattle.trains.specs.declared.TrainQuery.{TrainQuery}
 use Rattle.trains.specs.declared.TrainQuery.the-variants.{Touching, InTheWay, OtherAt}
+use Rattle.trains.specs.declared.FoundTrain.{FoundTrain}
 use Rattle.trains.specs.declared.FoundTrain.the-variants.{Is, Nothing}
 use Rattle.trains.specs.Trains.{endPasses, trainPasses, foundTrain}
 use Rattle.authorities.proofs.Loops.{Searches, search-as}
@@ -61,3 +63,19 @@ any-other-at n p ts = ap (λ (test : Train → Bool). any test ts) (fun-ext (λ 
 pub either-end : (q : TrainQuery) (t : Train) → trainPasses q t ≡ any (endPasses q t) (prefix 2 (t .head ∷ t .rear ∷ []))
 unfolding trainPasses any prefix
 either-end q t = rw or-false
+
+-- ---- the train with a number, looked for
+
+-- a train with that number is on the board, and it is t
+pub record There (b : Board) (n : TrainNo) (t : Train) : Type 0 where
+  pub on : onBoard b (n .0) ≡ true
+  pub is : train b (n .0) ≡ t
+
+module _ (r : Register) (n : TrainNo) {f : FoundTrain} (looked : f ≡ foundTrain (isTrain (n .0)) (prefix (r .running) (r .trains))) where
+  pub train-there : {t : Train} → f ≡ Is t → There (boardOf r) n t
+  unfolding boardOf onBoard train
+  train-there {t} e = let h = train-is (isTrain (n .0)) (boardOf r .trains) t (sym looked ∙ e) in record { on = h .0; is = h .1 }
+
+  pub train-missing : f ≡ Nothing → onBoard (boardOf r) (n .0) ≡ false
+  unfolding boardOf onBoard
+  train-missing e = train-none (isTrain (n .0)) (boardOf r .trains) (sym looked ∙ e)

@@ -4,7 +4,7 @@ use borrow.Author.Needs.{needs}
 use Rattle.rules.specs.declared.Register.{Register}
 use Rattle.rules.specs.Refusals.{lowest, notOfficer}
 use Rattle.places.specs.Places.{registerIn}
-use Rattle.answers.proofs.Finding.{not-found, found}
+use Rattle.authorities.proofs.AuthorityLaws.{not-found, found}
 use Rattle.answers.proofs.answer.answer_agree.Statement.{statement}
 use Rattle.answers.proofs.answer.answer_agree.Tie as tie
 

@@ -1,7 +1,7 @@
 -- `answers::condition::is_full` meets its contract. Assumes nothing.
 use Rattle.rules.specs.Board.{boardOf}
 use Rattle.rules.specs.Refusals.{full}
-use Rattle.answers.proofs.Conditions.{authorities-in-use}
+use Rattle.places.proofs.Registers.{authorities-in-use}
 use Rattle.answers.proofs.condition.is_full.Statement.{statement}
 use Rattle.answers.proofs.condition.is_full.Tie as tie
 

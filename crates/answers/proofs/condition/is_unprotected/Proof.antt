@@ -5,7 +5,7 @@ use denote.Ref.{now}
 use borrow.Author.Needs.{needs}
 use Rattle.rules.specs.Board.{boardOf}
 use Rattle.plan.proofs.Needs.{unprotected-subset}
-use Rattle.answers.proofs.Conditions.{gates-in-use}
+use Rattle.places.proofs.Registers.{gates-in-use}
 use Rattle.answers.proofs.condition.is_unprotected.Statement.{statement}
 use Rattle.answers.proofs.condition.is_unprotected.Tie as tie
 

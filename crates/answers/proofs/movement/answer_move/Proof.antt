@@ -1,5 +1,6 @@
 -- `answers::movement::answer_move` meets its contract. Assumes nothing.
 use borrow.Author.Needs.{needs}
+use Rattle.rules.specs.Board.{boardOf}
 use Rattle.authorities.specs.Authorities.{holdsPortion}
 use Rattle.answers.proofs.movement.answer_move.Statement.{statement}
 use Rattle.answers.proofs.movement.answer_move.Tie as tie
@@ -18,6 +19,7 @@ unfolding holdsPortion
 decide-move-requires c κs = (c .before .before .before .pre, c .before .find-holding .ensures, c .find-holding2 .ensures)
 
 returns : tie.Need-returns
+unfolding boardOf
 returns c = rw (c .decide-move .ensures, c .before .before .before .gate-at .ensures)
 
 pub answer-move-spec : {M : Type 1} → statement M

@@ -6,7 +6,7 @@ use Rattle.rules.specs.declared.Register.{Register}
 use Rattle.rules.specs.Board.{boardOf}
 use Rattle.rules.specs.Refusals.{lowest}
 use Rattle.places.specs.Places.{registerIn}
-use Rattle.answers.proofs.Conditions.{There, train-there, train-missing}
+use Rattle.trains.proofs.TrainLaws.{There, train-there, train-missing}
 use Rattle.answers.proofs.movement.answer_passed.Statement.{statement}
 use Rattle.answers.proofs.movement.answer_passed.Tie as tie
 

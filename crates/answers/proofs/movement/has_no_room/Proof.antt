@@ -1,7 +1,7 @@
 -- `answers::movement::has_no_room` meets its contract. Assumes nothing.
 use Rattle.rules.specs.Board.{boardOf}
 use Rattle.rules.specs.Refusals.{noRoom}
-use Rattle.answers.proofs.Conditions.{trains-in-use}
+use Rattle.places.proofs.Registers.{trains-in-use}
 use Rattle.answers.proofs.movement.has_no_room.Statement.{statement}
 use Rattle.answers.proofs.movement.has_no_room.Tie as tie
 

@@ -8,7 +8,7 @@ use Rattle.rules.specs.declared.Register.{Register}
 use Rattle.rules.specs.Board.{boardOf, isOutside}
 use Rattle.rules.specs.Refusals.{isAt, notThere}
 use Rattle.places.specs.Places.{registerIn}
-use Rattle.answers.proofs.Conditions.{There, train-there, train-missing}
+use Rattle.trains.proofs.TrainLaws.{There, train-there, train-missing}
 use Rattle.answers.proofs.movement.is_not_there.Statement.{statement}
 use Rattle.answers.proofs.movement.is_not_there.Tie as tie
 

@@ -3,7 +3,7 @@ use borrow.Author.Needs.{needs}
 use mathlib.Core.Path.{sym, ap}
 use Rattle.rules.specs.declared.Train.{Train}
 use Rattle.rules.specs.Board.{isOutside}
-use Rattle.answers.proofs.Conditions.{train-there}
+use Rattle.trains.proofs.TrainLaws.{train-there}
 use Rattle.effects.proofs.Changing.{train-absent}
 use Rattle.effects.proofs.effect.is_head_outside.Statement.{statement}
 use Rattle.effects.proofs.effect.is_head_outside.Tie as tie

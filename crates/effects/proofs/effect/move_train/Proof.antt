@@ -11,10 +11,11 @@ use Rattle.effects.proofs.effect.move_train.Statement.{statement}
 use Rattle.effects.proofs.effect.move_train.Tie as tie
 
 -- behind a gate from outside there is room for one more train
-room : (c : tie.Then1) → c .before .before .before .before .before .args .head .running < 32
+room : (c : tie.Then1) → c .before .before .before .args .head .running < 32
+unfolding boardOf
 room c =
     let gate = c .before .before .gate-at in
-    c .before .before .before .before .before .pre .1 .room (rw (← gate .ensures) (eq-eqb (gate .result .from) 99 (c .if1 .taken)))
+    c .before .before .before .pre .1 .room (rw (← gate .ensures) (eq-eqb (gate .result .from) 99 (c .if1 .taken)))
 
 gate-at-requires : tie.Need-gate-at-requires
 gate-at-requires c κs = search needs
@@ -32,7 +33,7 @@ returns : tie.Need-returns
 unfolding boardOf effect
 returns c =
     let f = c .before .before .before .before .before in
-    trains-effect (f .before .before .before .pre .0)
+    trains-effect (f .before .pre .0)
     (record { held = c .before .add-train .ensures; within = omega (arith, room (c .before .before .before)) })
     (rw (← f .gate-at .ensures, eq-eqb (f .gate-at .result .from) 99 (c .before .before .before .if1 .taken)))
 
@@ -40,7 +41,7 @@ returns-2 : tie.Need-returns-2
 unfolding boardOf effect trainTest trainChange
 returns-2 c =
     let f = c .before .before .before .before in
-    let k = f .before .before .before .pre .0 in
+    let k = f .before .pre .0 in
     trains-effect k (record { held = c .change-trains .ensures; within = k .running })
     (rw (← f .gate-at .ensures, ne-eqb (f .gate-at .result .from) 99 (c .before .before .if1 .left)))
 
