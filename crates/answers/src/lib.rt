@@ -1,4 +1,4 @@
-// The answer to a call: 0, or the lowest refusal whose condition holds on the board in the lent arrays.
+// A call's own answer on the board in the lent arrays: 0, or the lowest refusal from 5 on whose condition holds.
 mod answer;
 mod condition;
 mod decide;
