@@ -1,6 +1,6 @@
 -- What the answer of a search over the authorities says, in the rules' words. Assumes nothing.
 use Prim.Native.Nat.{ℕ}
-use mathlib.Core.Path.{_≡_, refl, sym, ap, _∙_}
+use mathlib.Core.Path.{_≡_, refl, sym, _∙_}
 use mathlib.Core.Bool.{Bool, true, false}
 use mathlib.Core.List.{List}
 use Rattle.lists.specs.Search.{any, first}
@@ -12,7 +12,7 @@ use Rattle.rules.specs.Refusals.{notLive}
 use Rattle.authorities.specs.declared.Found.{Found}
 use Rattle.authorities.specs.declared.Found.the-variants.{Is, Nothing}
 use Rattle.authorities.specs.Authorities.{foundIn, isIn}
-use Rattle.authorities.proofs.Loops.{Searches, search-as, search-any}
+use Rattle.authorities.proofs.Loops.{Searches, search-any, Tells, search-is, search-none}
 
 -- the answer is the first that passes, where some does
 pub found-searches : (test : Authority → Bool) → Searches test Is Nothing (foundIn test)
@@ -24,19 +24,16 @@ pub found-any : (test : Authority → Bool) (l : List Authority) → isIn (found
 unfolding isIn
 found-any test l = search-any (found-searches test) isIn refl (λ x. refl) noAuthority l
 
--- it finds none: no element passes
-pub found-none : (test : Authority → Bool) (l : List Authority) → foundIn test l ≡ Nothing → any test l ≡ false
-unfolding isIn
-found-none test l e = sym (found-any test l) ∙ ap isIn e
+-- it finds none: no element passes; it finds a: some element passes, and a is the first that does
+found-tells : Tells Is Nothing
+found-tells = record { apart = λ x e. cc; same = λ x y e. cc }
 
--- it finds a: some element passes, and a is the first that does
+pub found-none : (test : Authority → Bool) (l : List Authority) → foundIn test l ≡ Nothing → any test l ≡ false
+found-none test l e = search-none (found-searches test) found-tells noAuthority l e
+
 pub found-is : (test : Authority → Bool) (l : List Authority) {a : Authority} → foundIn test l ≡ Is a
     → (any test l ≡ true) × (first test noAuthority l ≡ a)
-unfolding isIn
-found-is test l {a} e =
-    let some : any test l ≡ true = sym (found-any test l) ∙ ap isIn e in
-    let same : foundIn test l ≡ Is (first test noAuthority l) = search-as (found-searches test) noAuthority l ∙ rw some in
-    (some, cc)
+found-is test l e = search-is (found-searches test) found-tells noAuthority l e
 
 -- ---- the authority with a number, looked for
 

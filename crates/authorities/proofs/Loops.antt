@@ -6,7 +6,7 @@ use Prim.Native.Nat.{ℕ, _+_, _≤_, _<_}
 use native.Mathlib.Omega.{arith}
 use native.Mathlib.Nat.{add-zero}
 use mathlib.Core.Path.{_≡_, refl, sym, _∙_}
-use mathlib.Core.Bool.{Bool, true, false, cond, _||_}
+use mathlib.Core.Bool.{Bool, true, false, cond, _||_, true≢false}
 use mathlib.Core.List.{List, [], _∷_, _++_}
 use lib.ListN.{length, drop, getD, set, length-set}
 use lib.Seq.{getD-drop, drop-at, drop-drop, drop-set-lt}
@@ -70,6 +70,28 @@ search-any {test = test} {found = found} {none = none} s told no-one one d l = r
     go : (t : Bool) → told (cond t (found (first test d l)) none) ≡ t
     go true = one (first test d l)
     go false = no-one
+
+-- `found` and `none` are told apart, and `found` tells its element
+pub record Tells {A R : Type 0} (found : A → R) (none : R) : Type 0 where
+  pub apart : (x : A) → found x ≡ none → true ≡ false
+  pub same : (x y : A) → found x ≡ found y → x ≡ y
+
+-- then an answer that is `found a` says that some element passes, and a is the first; `none` says that none passes
+module _ {A R : Type 0} {test : A → Bool} {found : A → R} {none : R} {answer : List A → R} (s : Searches test found none answer) (k : Tells found none)
+    (d : A) (l : List A) where
+  pub search-is : {a : A} → answer l ≡ found a → (any test l ≡ true) × (first test d l ≡ a)
+  search-is {a} e = go (any test l) (sym (search-as s d l) ∙ e)
+    where
+      go : (t : Bool) → cond t (found (first test d l)) none ≡ found a → (t ≡ true) × (first test d l ≡ a)
+      go true i = (refl, k .same (first test d l) a i)
+      go false i = absurd (true≢false (k .apart a (sym i)))
+
+  pub search-none : answer l ≡ none → any test l ≡ false
+  search-none e = go (any test l) (sym (search-as s d l) ∙ e)
+    where
+      go : (t : Bool) → cond t (found (first test d l)) none ≡ none → t ≡ false
+      go true i = k .apart (first test d l) i
+      go false i = refl
 
 -- none before i passes
 pub record Searching {A R : Type 0} (answer : List A → R) (l : List A) (count i : ℕ) : Type 0 where

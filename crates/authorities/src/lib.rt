@@ -31,16 +31,6 @@ pub enum Change {
     Term(u32, u16),
 }
 
-pub fn is_exclusive(kind: Kind) -> bool
-    ensures { λ r. ⌜ r ≡ exclusive kind ⌝ }
-{
-    match kind {
-        Kind::Lpa => true,
-        Kind::Toa => true,
-        Kind::Twa => false,
-    }
-}
-
 pub fn is_lpa(kind: Kind) -> bool
     ensures { λ r. ⌜ r ≡ isLpa kind ⌝ }
 {
@@ -69,6 +59,13 @@ pub fn is_twa(kind: Kind) -> bool
         Kind::Toa => false,
         Kind::Twa => true,
     }
+}
+
+// LPA and TOA are exclusive.
+pub fn is_exclusive(kind: Kind) -> bool
+    ensures { λ r. ⌜ r ≡ exclusive kind ⌝ }
+{
+    !is_twa(kind)
 }
 
 // Refusal 13: x is in force, another than a and old, and shares a portion with a, and a is no TWA that has x as its agreed TOA.

@@ -1,7 +1,6 @@
 -- A run makes no more calls than it may. Assumes nothing.
 use Prim.Native.Nat.{ℕ, zero, suc, _/_, _≤_}
 use native.Mathlib.Omega.{arith}
-use mathlib.Core.Path.{_≡_}
 use mathlib.Core.List.{List}
 use lib.ListN.{length, take, drop}
 use Rattle.rules.specs.declared.Seven.{Seven}

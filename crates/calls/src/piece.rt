@@ -1,5 +1,4 @@
 // A piece of a text of calls run on a board.
-ghost use mathlib.Core.Path.{_≡_};
 ghost use Rattle.rules.specs.Step.{Kept};
 ghost use Rattle.places.specs.Places.{registerIn};
 ghost use Rattle.calls.specs.Run.{RunPost};

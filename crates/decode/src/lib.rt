@@ -1,7 +1,7 @@
 // Reading a call off its seven numbers: its number is matched over 1 to 14 and the range beyond, its fields are then matched by kind.
 ghost use mathlib.Core.Path.{_≡_};
 ghost use mathlib.Core.Bool.{_&&_};
-ghost use Rattle.rules.specs.Call.{isDay, isTime, minuteOf, inRange, inForm, inRanges, kindOf, entryOf, isCall, named, decoded};
+ghost use Rattle.rules.specs.Call.{isDay, isTime, minuteOf, inRange, inForm, kindOf, entryOf, named, decoded};
 use rules::AuthorityNo;
 use rules::Call;
 use rules::Field;

@@ -1,5 +1,5 @@
 // The journal program: a plan, calls in pieces of whole lines, and their journal lines.
-ghost use Prim.Native.Nat.{_≤_, _<_};
+ghost use Prim.Native.Nat.{_<_};
 ghost use mathlib.Core.Path.{_≡_};
 ghost use lib.ListN.{length};
 ghost use Rattle.rules.specs.Step.{Kept};

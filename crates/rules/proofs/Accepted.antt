@@ -5,7 +5,6 @@ use mathlib.Core.Bool.{true, false, not, false≢true}
 use native.Mathlib.Omega.{arith}
 use mathlib.Core.List.{List, List·Memᴰ·head, List·Memᴰ·tail}
 use lib.ListN.{length}
-use lib.Dec.{leb, ltb}
 use borrow.Author.Tests.{leb-true, ltb-true}
 use Rattle.lists.proofs.Tests.{told, not-no}
 use Rattle.lists.proofs.Search.{each-at}

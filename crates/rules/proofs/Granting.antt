@@ -8,7 +8,7 @@ use mathlib.Core.Bool.{Bool, true, false, cond, not, _&&_, _||_, false≢true}
 use lib.ListN.{length}
 use lib.Dec.{eqb, leb}
 use borrow.Author.Tests.{eqb-true, eqb-false, eq-eqb, ne-eqb, le-leb}
-use Rattle.lists.specs.Search.{any, below, change}
+use Rattle.lists.specs.Search.{below, change}
 use Rattle.lists.proofs.Tests.{truth, clash, told, shown, and-i, and-no-r, or-yes-l, or-yes-r, not-no}
 use Rattle.lists.proofs.Search.{Member, any-no, below-has, change-each}
 use Rattle.lists.proofs.Distinct.{taken-change}
@@ -31,7 +31,7 @@ use Rattle.rules.specs.Claim.{In, Forced, Agreed, Safe}
 use Rattle.rules.proofs.Answers.{conditionAt}
 use Rattle.rules.proofs.Accepted.{Accepted}
 use Rattle.rules.proofs.Follows.{put-other, put-all, Held, Placed, Follows, authority-there, there-ended, follows-amended, follows-ended, follows-trains}
-use Rattle.rules.proofs.Claims.{New, safe-put, safe-quieter}
+use Rattle.rules.proofs.Claims.{safe-put, safe-quieter}
 use Rattle.rules.proofs.Recording.{Keeps, here, there, is-live, held-there, held-anew, held-sited}
 
 pub twa-kind : (k : Kind) → isTwa k ≡ true → k ≡ Twa

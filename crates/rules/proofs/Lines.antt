@@ -7,7 +7,7 @@ use mathlib.Core.List.{List, [], _∷_}
 use lib.ListN.{length}
 use Rattle.lists.proofs.Search.{Each}
 use Rattle.columns.specs.Column.{fits}
-use Rattle.columns.specs.Line.{line, allFit}
+use Rattle.columns.specs.Line.{allFit}
 use Rattle.columns.proofs.Writing.{fits-below, total, line-length}
 use Rattle.rules.specs.declared.Seven.{Seven}
 use Rattle.rules.specs.Journal.{journalWidths, journalLine}

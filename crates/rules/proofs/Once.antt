@@ -4,7 +4,7 @@ use Prim.Native.Nat.{ℕ, suc, _≤_, _<_}
 use native.Mathlib.Omega.{arith}
 use mathlib.Core.Path.{_≡_, refl, ap}
 use mathlib.Core.Logic.{⊎-elim}
-use mathlib.Core.Bool.{Bool, true, false, cond, not}
+use mathlib.Core.Bool.{Bool, true, false, cond}
 use mathlib.Core.List.{List, [], _∷_, _++_, List·Memᴰ·append-cases, List·Memᴰ·eq-of-singleton}
 use lib.ListN.{length, length-append}
 use lib.Dec.{eqb, leb}
@@ -24,7 +24,7 @@ use Rattle.rules.specs.declared.Call.the-variants.{NoSuchCall, BadField,
 use Rattle.rules.specs.Board.{Board, opened, isOutside, gateAt, authorityNo, trainNo, isAuthority, isTrain, isNotAuthority, isNotTrain, authority, onBoard, train, withAuthorities, withTrains, amended, ended, moved, gone}
 use Rattle.rules.specs.Call.{minuteOf, named}
 use Rattle.rules.specs.Refusals.{own, full, noRoom, notThere, answer}
-use Rattle.rules.specs.Effects.{requested, granted, withSite, withOfficer, withAgreed, withTerm, entered, withHead, withRearIn, isWith, continuedWith, continued, effect}
+use Rattle.rules.specs.Effects.{requested, granted, withSite, withOfficer, withAgreed, withTerm, entered, withHead, withRearIn, isWith, continuedWith, effect}
 use Rattle.rules.specs.Step.{Once, after, Made, final}
 use Rattle.rules.proofs.Answers.{conditionAt}
 use Rattle.rules.proofs.Accepted.{Accepted, accepted}

@@ -1,4 +1,4 @@
--- What the register holds (01, "Track and gates" and "What the register holds"). Assumes nothing.
+-- What the register holds (01, "Track and gates" and "What the register holds"; 02, order 1: terms). Assumes nothing.
 use Prim.Native.Nat.{ℕ}
 use mathlib.Core.Path.{_≡_}
 use mathlib.Core.Bool.{Bool, true, false, not, _&&_, _||_}

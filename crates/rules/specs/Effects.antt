@@ -87,7 +87,7 @@ withAgreed toa a = record {
   length = a .length;
 }
 
--- TERM: the minute in which the term starts, and its length in minutes. It stays with the authority until that ends.
+-- TERM: "start day, start time, length in minutes": the minute in which the term starts, and its length. No other call changes it.
 abbrev pub withTerm : ℕ → ℕ → Authority → Authority
 withTerm start length a = record {
   number = a .number;

@@ -1,7 +1,7 @@
 -- What the answer of a search over the trains says, and what each query asks, in the rules' words. Assumes nothing.
 use Prim.Native.Nat.{ℕ}
 use mathlib.Core.Path.{_≡_, refl, sym, ap, fun-ext, _∙_}
-use mathlib.Core.Bool.{Bool, true, false, cond, or-false, and-assoc, and-or-distrib-left, and-or-distrib-right}
+use mathlib.Core.Bool.{Bool, true, false, or-false, and-assoc, and-or-distrib-left, and-or-distrib-right}
 use mathlib.Core.List.{List, [], _∷_}
 use Rattle.lists.specs.Search.{any, first}
 use Rattle.lists.specs.Prefix.{prefix}
@@ -17,7 +17,7 @@ use Rattle.trains.specs.declared.TrainQuery.the-variants.{Touching, InTh
 use Rattle.trains.specs.declared.FoundTrain.{FoundTrain}
 use Rattle.trains.specs.declared.FoundTrain.the-variants.{Is, Nothing}
 use Rattle.trains.specs.Trains.{endPasses, trainPasses, foundTrain}
-use Rattle.authorities.proofs.Loops.{Searches, search-as}
+use Rattle.authorities.proofs.Loops.{Searches, Tells, search-is, search-none}
 
 -- ---- the train found, by the searches of the rules
 
@@ -26,21 +26,15 @@ pub train-searches : (test : Train → Bool) → Searches test Is Nothing (found
 unfolding foundTrain
 train-searches test = record { of-none = refl; of-one = λ t ts. refl }
 
--- the one found is the first that passes
-is-step : (b : Bool) (t x : Train) → cond b (Is t) Nothing ≡ Is x → (b ≡ true) × (t ≡ x)
-is-step true t x e = (refl, cc)
-is-step false t x e = (cc, cc)
-
-pub train-is : (test : Train → Bool) (l : List Train) (t : Train) → foundTrain test l ≡ Is t → (any test l ≡ true) × (first test noTrain l ≡ t)
-train-is test l t e = is-step (any test l) (first test noTrain l) t (sym (search-as (train-searches test) noTrain l) ∙ e)
-
--- where none is found, none passes
-none-step : (b : Bool) (t : Train) → cond b (Is t) Nothing ≡ Nothing → b ≡ false
-none-step true t e = cc
-none-step false t e = refl
+-- it finds none: no train passes; it finds t: some train passes, and t is the first that does
+train-tells : Tells Is Nothing
+train-tells = record { apart = λ x e. cc; same = λ x y e. cc }
 
 pub train-none : (test : Train → Bool) (l : List Train) → foundTrain test l ≡ Nothing → any test l ≡ false
-train-none test l e = none-step (any test l) (first test noTrain l) (sym (search-as (train-searches test) noTrain l) ∙ e)
+train-none test l e = search-none (train-searches test) train-tells noTrain l e
+
+pub train-is : (test : Train → Bool) (l : List Train) {t : Train} → foundTrain test l ≡ Is t → (any test l ≡ true) × (first test noTrain l ≡ t)
+train-is test l e = search-is (train-searches test) train-tells noTrain l e
 
 -- ---- what each query asks
 
@@ -74,7 +68,7 @@ pub record There (b : Board) (n : TrainNo) (t : Train) : Type 0 where
 module _ (r : Register) (n : TrainNo) {f : FoundTrain} (looked : f ≡ foundTrain (isTrain (n .0)) (prefix (r .running) (r .trains))) where
   pub train-there : {t : Train} → f ≡ Is t → There (boardOf r) n t
   unfolding boardOf onBoard train
-  train-there {t} e = let h = train-is (isTrain (n .0)) (boardOf r .trains) t (sym looked ∙ e) in record { on = h .0; is = h .1 }
+  train-there {t} e = let h = train-is (isTrain (n .0)) (boardOf r .trains) (sym looked ∙ e) in record { on = h .0; is = h .1 }
 
   pub train-missing : f ≡ Nothing → onBoard (boardOf r) (n .0) ≡ false
   unfolding boardOf onBoard

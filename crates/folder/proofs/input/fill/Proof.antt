@@ -9,10 +9,6 @@ use borrow.Author.Needs.{needs}
 use Rattle.io.specs.Counts.{Counts}
 use Rattle.folder.proofs.input.fill.Statement.{statement}
 use Rattle.folder.proofs.input.fill.Tie as tie
-use Rattle.folder.proofs.input.fill.Reads as reads
-use Rattle.folder.proofs.input.fill.Lts as lts
-use Rattle.io.proofs.count.Reads as count-reads
-use Rattle.libc.proofs.read.Reads as read-reads
 
 -- so many bytes at the front of a list
 counts : (n : ℕ) (l : List ℕ) → n ≤ length l → Counts n l

@@ -6,13 +6,6 @@ use Rattle.calls.proofs.Counting.{lines-most}
 use borrow.Author.Needs.{needs}
 use Rattle.folder.proofs.journal.print_piece.Statement.{statement}
 use Rattle.folder.proofs.journal.print_piece.Tie as tie
-use Rattle.folder.proofs.journal.print_piece.Reads as reads
-use Rattle.folder.proofs.journal.print_piece.Lts as lts
-use Rattle.calls.proofs.run.Reads as run-reads
-use Rattle.folder.proofs.input.fill.Reads as fill-reads
-use Rattle.folder.proofs.output.print.Reads as print-reads
-use Rattle.folder.proofs.output.say_malformed.Reads as say-malformed-reads
-use Rattle.os.proofs.fail.Reads as fail-reads
 
 fill-requires : tie.Need-fill-requires
 fill-requires c κs = search needs

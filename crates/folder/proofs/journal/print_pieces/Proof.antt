@@ -1,15 +1,11 @@
 -- `folder::journal::print_pieces` meets its contract. The invariant: the register is kept, and the buffers keep their lengths. Assumes nothing.
-use Prim.Native.Nat.{_-_, _≤_}
+use Prim.Native.Nat.{_-_}
 use mathlib.Core.Path.{_≡_}
-use native.Mathlib.Omega.{arith}
 use lib.ListN.{length}
 use borrow.Author.Needs.{needs}
 use Rattle.rules.specs.Step.{Kept}
 use Rattle.folder.proofs.journal.print_pieces.Statement.{statement}
 use Rattle.folder.proofs.journal.print_pieces.Tie as tie
-use Rattle.folder.proofs.journal.print_pieces.Reads as reads
-use Rattle.folder.proofs.journal.print_pieces.Lts as lts
-use Rattle.folder.proofs.journal.print_piece.Reads as print-piece-reads
 
 abbrev Inv-loop : tie.InvT-loop
 Inv-loop fd text₀ out₀ register₀ piece₀ text out register piece = Kept register × (length text ≡ 352256) × (length out ≡ 450560)

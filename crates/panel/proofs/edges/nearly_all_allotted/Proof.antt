@@ -4,9 +4,6 @@ use borrow.Author.Needs.{needs}
 use Rattle.rules.specs.Step.{Kept}
 use Rattle.panel.proofs.edges.nearly_all_allotted.Statement.{statement}
 use Rattle.panel.proofs.edges.nearly_all_allotted.Tie as tie
-use Rattle.panel.proofs.edges.nearly_all_allotted.Reads as reads
-use Rattle.panel.proofs.edges.nearly_all_allotted.Lts as lts
-use Rattle.panel.proofs.edges.request_and_withdraw.Reads as request-and-withdraw-reads
 
 abbrev Inv-loop : tie.InvT-loop
 Inv-loop register₀ number₀ register number = Kept register × (number ≤ 9999)

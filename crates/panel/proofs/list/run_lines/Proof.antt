@@ -4,11 +4,6 @@ use borrow.Author.Needs.{needs}
 use lib.ListN.{length}
 use Rattle.panel.proofs.list.run_lines.Statement.{statement}
 use Rattle.panel.proofs.list.run_lines.Tie as tie
-use Rattle.panel.proofs.list.run_lines.Reads as reads
-use Rattle.panel.proofs.list.run_lines.Lts as lts
-use Rattle.folder.proofs.print.Reads as print-reads
-use Rattle.panel.proofs.list.run_line.Reads as run-line-reads
-use Rattle.panel.proofs.list.until.Reads as until-reads
 
 abbrev Inv-loop : tie.InvT-loop
 Inv-loop list at₀ t4 at = at ≤ length list

@@ -4,8 +4,6 @@ use borrow.Author.Needs.{needs}
 use lib.ListN.{length}
 use Rattle.panel.proofs.list.until.Statement.{statement}
 use Rattle.panel.proofs.list.until.Tie as tie
-use Rattle.panel.proofs.list.until.Reads as reads
-use Rattle.panel.proofs.list.until.Lts as lts
 
 abbrev Inv-loop : tie.InvT-loop
 Inv-loop text mark at₀ at = at ≤ length text

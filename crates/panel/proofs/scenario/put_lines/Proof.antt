@@ -5,9 +5,6 @@ use lib.ListN.{length}
 use Rattle.rules.specs.Step.{Kept}
 use Rattle.panel.proofs.scenario.put_lines.Statement.{statement}
 use Rattle.panel.proofs.scenario.put_lines.Tie as tie
-use Rattle.panel.proofs.scenario.put_lines.Reads as reads
-use Rattle.panel.proofs.scenario.put_lines.Lts as lts
-use Rattle.panel.proofs.scenario.put_line.Reads as put-line-reads
 
 abbrev Inv-loop : tie.InvT-loop
 Inv-loop calls register₀ at₀ register at = Kept register × (at ≤ length calls)
