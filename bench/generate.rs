@@ -3,10 +3,10 @@
 //!   generate SEED KIND OUTDIR      writes the files plan and calls
 //!   generate SEED busy N OUTDIR    the same, N calls on a busy board
 //!
-//! Kinds: steered, numbers, damaged, short, wild, busy N. The generator looks
-//! at the reference's board, which it uses as a module, to steer towards calls
-//! that are accepted or refused for a wanted reason. The clock goes on by a
-//! few minutes a call, and sometimes by about a week to the term of an LPA.
+//! Kinds: steered, numbers, damaged, short, wild, shift, busy N. The generator
+//! looks at the reference's board, which it uses as a module, to steer towards
+//! calls that are accepted or refused for a wanted reason. The clock goes on by
+//! a few minutes a call, and sometimes by about a week to the term of an LPA.
 //!
 //! Build: rustc -O generate.rs
 
@@ -345,6 +345,9 @@ struct Driver {
     ration: u16,
     /// the call that is to come next, if that is settled already
     next: Option<[u16; 7]>,
+    /// the live authorities in the order to pick from, which isn't the
+    /// register's: the last takes the place of one that ends
+    picks: Vec<AuthorityNumber>,
 }
 
 /// The minutes that the clock may still reach now, both ends included.
@@ -373,7 +376,8 @@ impl Driver {
         officers.extend([1, 999]);
         let mut train_pool: Vec<u16> = (1..=34 + rng.between(0, 6)).collect();
         train_pool.extend([64, 99, 9998, 9999]);
-        Driver { rng, board, officers, train_pool, mood: EVEN, pace: 2000, leaps: true, ration: 9999, next: None }
+        let picks = Vec::with_capacity(MOST_LIVE);
+        Driver { rng, board, officers, train_pool, mood: EVEN, pace: 2000, leaps: true, ration: 9999, next: None, picks }
     }
 
     fn answer(&self, numbers: &[u16; 7]) -> u16 {
@@ -477,7 +481,10 @@ impl Driver {
     // ----- picking from the board -----
 
     fn pick_live(&mut self, fits: impl Fn(&Authority) -> bool) -> Option<Authority> {
-        self.rng.first_fit(&self.board.live, fits)
+        let live = &self.board.live;
+        let find = |number: &AuthorityNumber| live.iter().find(|one| one.number == *number);
+        let number = self.rng.first_fit(&self.picks, |number| find(number).is_some_and(&fits))?;
+        find(&number).copied()
     }
 
     fn pick_gate(&mut self, fits: impl Fn(GateNumber, &Gate) -> bool) -> Option<u16> {
@@ -1114,7 +1121,17 @@ impl Driver {
     }
 
     fn apply(&mut self, numbers: &[u16; 7]) -> u16 {
-        self.board.call(numbers).0
+        let (answer, allotted) = self.board.call(numbers);
+        match numbers[2] {
+            1 if answer == 0 => self.picks.push(AuthorityNumber(allotted)),
+            // the one that WITHDRAW, FULFIL or CONTINUE ends
+            2 | 10 | 11 if answer == 0 => {
+                let ended = self.picks.iter().position(|number| number.0 == numbers[3]);
+                self.picks.swap_remove(ended.expect("it was live"));
+            }
+            _ => {}
+        }
+        answer
     }
 
     /// A list of steered calls, in phases of different moods.
@@ -1225,6 +1242,195 @@ fn short(mut rng: Rng) -> (Vec<u8>, Vec<u8>) {
     let mut list = Vec::new();
     driver.steer(count, &mut list);
     (plan.text(), text_of(&list))
+}
+
+/// A list that ends where the shift sheet has something to show.
+fn shift(mut rng: Rng) -> (Vec<u8>, Vec<u8>) {
+    let ending = rng.below(10);
+    let count = rng.below(250);
+    let plan = if ending == 6 || ending == 7 { Plan::open_to_all(&mut rng) } else { Plan::random(&mut rng) };
+    let mut driver = Driver::new(rng, &plan);
+    let mut list = Vec::new();
+    match ending {
+        // an LPA within some minutes of its end
+        0..=3 => {
+            driver.steer(count / 2, &mut list);
+            driver.possession(&mut list);
+        }
+        4 => {
+            driver.steer(count, &mut list);
+            while driver.board.live.len() < MOST_LIVE {
+                let [kind, first, last, officer] = driver.good_request();
+                driver.add(1, [kind, first, last, officer], &mut list);
+            }
+        }
+        5 => {
+            driver.steer(count, &mut list);
+            while let Some(one) = driver.pick_live(|_| true) {
+                driver.end(&one, &mut list);
+            }
+        }
+        6 | 7 => driver.hold_all(&mut list),
+        _ => driver.far_apart(&mut list),
+    }
+    (plan.text(), text_of(&list))
+}
+
+impl Plan {
+    /// P 64, every gate between neighbours or from outside, none of kind 4.
+    fn open_to_all(rng: &mut Rng) -> Plan {
+        let mut plan = Plan { portions: 64, gates: Vec::new() };
+        for _ in 0..rng.pick(&[0, 1, 10, 64, 64]) {
+            let to = rng.between(0, 63);
+            let near = if to == 63 { 62 } else { to + 1 };
+            plan.gates.push([rng.pick(&[OUTSIDE, near]), to, rng.between(1, 3)]);
+        }
+        plan
+    }
+}
+
+impl Driver {
+    /// The call with the last stamp, which is applied and listed.
+    fn add(&mut self, call: u16, fields: [u16; 4], list: &mut Vec<[u16; 7]>) -> u16 {
+        self.add_at(self.board.last_stamp, call, fields, list)
+    }
+
+    fn add_at(&mut self, stamp: Stamp, call: u16, fields: [u16; 4], list: &mut Vec<[u16; 7]>) -> u16 {
+        let numbers = [stamp.day, stamp.time, call, fields[0], fields[1], fields[2], fields[3]];
+        list.push(numbers);
+        self.apply(&numbers)
+    }
+
+    /// WITHDRAW, or CLEAR and FULFIL.
+    fn end(&mut self, one: &Authority, list: &mut Vec<[u16; 7]>) {
+        let (authority, officer) = (one.number.0, one.officer);
+        if one.is_pending() {
+            self.add(2, [authority, officer, 0, 0], list);
+            return;
+        }
+        if one.site == Site::WorkersOn {
+            self.add(7, [authority, officer, 0, 0], list);
+        }
+        self.add(10, [authority, officer, 7, 0], list);
+    }
+
+    /// REQUEST, and BLOCK of what the authority needs; its number, if a place
+    /// and a number were free.
+    fn ask(&mut self, fields: [u16; 4], list: &mut Vec<[u16; 7]>) -> Option<u16> {
+        if self.add(1, fields, list) != 0 {
+            return None;
+        }
+        let needed = self.board.needed_gates(Portions::first_to_last(fields[1], fields[2]));
+        for gate in 0..self.board.gates.len() as u16 {
+            if needed.hold(GateNumber(gate)) && !self.board.blocked.hold(GateNumber(gate)) {
+                self.add(4, [gate, 0, 0, 0], list);
+            }
+        }
+        Some(self.board.last_number)
+    }
+
+    /// Limits that may come into force, if such are found soon.
+    fn free_limits(&mut self) -> (u16, u16) {
+        let mut fields = self.good_request();
+        for _ in 0..20 {
+            let limits = Portions::first_to_last(fields[1], fields[2]);
+            let taken = self.board.live.iter().any(|one| one.is_in_force() && one.limits.share(limits));
+            let needed = self.board.needed_gates(limits);
+            let open = (0..self.board.gates.len()).any(|gate| {
+                needed.hold(GateNumber(gate as u16)) && !self.board.gates[gate].can_be_blocked()
+            });
+            if !taken && !open && !self.board.is_touched(limits) {
+                break;
+            }
+            fields = self.good_request();
+        }
+        (fields[1], fields[2])
+    }
+
+    /// An LPA with a term, in force if that can be, and then three calls within
+    /// ten minutes of its end.
+    fn possession(&mut self, list: &mut Vec<[u16; 7]>) {
+        if self.board.live.len() == MOST_LIVE {
+            if let Some(one) = self.pick_live(|_| true) {
+                self.end(&one, list);
+            }
+        }
+        let (first, last) = self.free_limits();
+        let mut officer = self.any_officer();
+        let Some(authority) = self.ask([1, first, last, officer], list) else {
+            return;
+        };
+        let start = self.board.last_stamp.minute() + NOTICE + self.rng.pick(&[0, 1, 59, 60, 1439]);
+        let length = self.rng.pick(&[1, 2, 12, 40, 90, 1440, 65535]);
+        let end = start + u32::from(length);
+        let starts = stamp_of(start);
+        self.add(14, [authority, starts.day, starts.time, length], list);
+        if self.rng.chance(75) {
+            let minute = self.rng.pick(&[start, start, end - 1]);
+            self.add_at(stamp_of(minute), 6, [authority, officer, 0, 0], list);
+        }
+        let mut left: Vec<u32> =
+            (0..3).map(|_| self.rng.pick(&[0, 1, 5, 8, 9, 9, 10, 10, 10, 11, 11, 12, 13, 15, 19, 20])).collect();
+        left.sort();
+        for left in left.into_iter().rev() {
+            let minute = end + 10 - left;
+            let other = self.other_officer(officer);
+            if self.add_at(stamp_of(minute), 9, [authority, officer, other, 0], list) == 0 {
+                officer = other;
+            }
+        }
+    }
+
+    /// A TOA over all portions, or all but one, and TWAs in it that its officer
+    /// agreed; then blocks on all gates, or as they are.
+    fn hold_all(&mut self, list: &mut Vec<[u16; 7]>) {
+        let (first, last) = self.rng.pick(&[(0, 63), (0, 63), (0, 62), (1, 63)]);
+        let officer = self.any_officer();
+        let Some(toa) = self.ask([2, first, last, officer], list) else {
+            return;
+        };
+        self.add(6, [toa, officer, 0, 0], list);
+        let mut from = self.rng.between(first, 40);
+        for _ in 0..self.rng.below(5) {
+            let to = (from + self.rng.between(0, 9)).min(last);
+            if let Some(twa) = self.ask([3, from, to, officer], list) {
+                self.add(3, [toa, twa, officer, 0], list);
+                self.add(6, [twa, officer, 0, 0], list);
+            }
+            from = (to + 1).min(last);
+        }
+        if self.rng.chance(50) {
+            for gate in 0..self.board.gates.len() as u16 {
+                if !self.board.blocked.hold(GateNumber(gate)) {
+                    self.add(4, [gate, 0, 0, 0], list);
+                }
+            }
+        }
+    }
+
+    /// A term a week ahead and one at the end of the days, and then a jump over
+    /// most of them.
+    fn far_apart(&mut self, list: &mut Vec<[u16; 7]>) {
+        let officer = self.any_officer();
+        let day = self.rng.between(7, 9);
+        let length = self.rng.pick(&[1, 1, 1440]);
+        if let Some(near) = self.ask([1, 0, 0, officer], list) {
+            self.add(14, [near, day, 0, length], list);
+            if self.rng.chance(50) {
+                self.add_at(Stamp { day, time: 0 }, 6, [near, officer, 0, 0], list);
+            }
+        }
+        if let Some(far) = self.ask([1, 0, 0, officer], list) {
+            let (day, time) = self.rng.pick(&[(9999, 2359), (9999, 0), (9000, 1200)]);
+            let length = self.rng.pick(&[1, 65534, 65535]);
+            self.add(14, [far, day, time, length], list);
+            if self.rng.chance(60) {
+                let day = self.rng.between(7000, 9999);
+                let other = self.other_officer(officer);
+                self.add_at(Stamp { day, time: 2359 }, 9, [far, officer, other, 0], list);
+            }
+        }
+    }
 }
 
 /// Random numbers, mostly small.
@@ -1525,7 +1731,7 @@ fn seeded(seed: u64, kind: &str) -> Rng {
 }
 
 fn run(arguments: &[String]) -> Result<(), String> {
-    let usage = "usage: generate SEED steered|numbers|damaged|short|wild OUTDIR, or generate SEED busy N OUTDIR";
+    let usage = "usage: generate SEED steered|numbers|damaged|short|wild|shift OUTDIR, or generate SEED busy N OUTDIR";
     let (seed, kind, folder) = match arguments {
         [seed, kind, .., folder] => (seed, kind.as_str(), Path::new(folder)),
         _ => return Err(usage.to_string()),
@@ -1537,6 +1743,7 @@ fn run(arguments: &[String]) -> Result<(), String> {
         ("damaged", 3) => damaged(rng),
         ("short", 3) => short(rng),
         ("wild", 3) => wild(rng),
+        ("shift", 3) => shift(rng),
         ("busy", 4) => {
             let count = arguments[2].parse().map_err(|_| usage)?;
             return busy(rng, count, folder).map_err(|error| error.to_string());

@@ -1,18 +1,20 @@
-//! The track authority board, read from 01-scope.md and order 1 of
+//! The track authority board, read from 01-scope.md and orders 1 and 2 of
 //! 02-change-requests.md and from nothing else.
 //!
 //! A plain program: it reads the files `plan` and `calls` in the working
-//! folder and prints the journal on standard output. Quotation marks in the
-//! comments hold the papers' own words; what isn't marked as order 1's is
-//! 01's. Each call is one function of the board; its conditions for refusal
-//! are tested in ascending order of their numbers, because "the lowest number
-//! whose condition holds is given".
+//! folder and prints the journal on standard output; with the argument `sheet`
+//! it prints order 2's shift sheet instead. Quotation marks in the comments
+//! hold the papers' own words; what isn't marked as an order's is 01's. Each
+//! call is one function of the board; its conditions for refusal are tested in
+//! ascending order of their numbers, because "the lowest number whose
+//! condition holds is given".
 //!
 //! Build: rustc -O reference.rs
 //! As a module: #[path = "reference.rs"] mod reference;
 
 #![allow(dead_code)]
 
+use std::env;
 use std::fs::File;
 use std::io::{self, ErrorKind, Read, Write};
 use std::process::ExitCode;
@@ -38,13 +40,20 @@ pub const COLUMNS: usize = 6;
 pub const PLAN_LINE: usize = 3 * COLUMNS + 1;
 pub const CALL_LINE: usize = 7 * COLUMNS + 1;
 pub const JOURNAL_LINE: usize = 9 * COLUMNS + 1;
+/// Order 2: "72 columns wide", eight numbers, "all 9 columns right-justified";
+/// "33 lines of 73 bytes": 32 live authorities and the last line.
+pub const CELL: usize = 9;
+pub const CELLS: usize = 8;
+pub const SHEET_WIDTH: usize = CELLS * CELL;
+pub const SHEET_LINE: usize = SHEET_WIDTH + 1;
+pub const SHEET: usize = (MOST_LIVE + 1) * SHEET_LINE;
 
 // ---------------------------------------------------------------------------
 // Refusals
 // ---------------------------------------------------------------------------
 
 /// The refusal words. 1, "short line", is about the caller's buffer and
-/// cannot occur in this program.
+/// cannot occur in this program; nor can 23, but the sheet states it.
 #[derive(Clone, Copy, PartialEq, Eq, Debug)]
 pub enum Refusal {
     NoSuchCall = 2,
@@ -69,6 +78,8 @@ pub enum Refusal {
     /// Order 1 gives 21 and 22 no word.
     ShortNotice = 21,
     OutsideTerm = 22,
+    /// Order 2 gives 23 no word.
+    ShortSheet = 23,
 }
 
 fn refuse_if(condition: bool, refusal: Refusal) -> Result<(), Refusal> {
@@ -119,6 +130,20 @@ impl Portions {
     pub fn share(self, other: Portions) -> bool {
         self.0 & other.0 != 0
     }
+
+    /// The first and the last portion of limits, which are never empty.
+    pub fn first(self) -> u16 {
+        self.0.trailing_zeros() as u16
+    }
+
+    pub fn last(self) -> u16 {
+        63 - self.0.leading_zeros() as u16
+    }
+
+    /// How many there are.
+    pub fn count(self) -> u16 {
+        self.0.count_ones() as u16
+    }
 }
 
 /// A set of gates, bit n for gate n.
@@ -140,6 +165,11 @@ impl Gates {
 
     pub fn all_in(self, other: Gates) -> bool {
         self.0 & !other.0 == 0
+    }
+
+    /// How many there are.
+    pub fn count(self) -> u16 {
+        self.0.count_ones() as u16
     }
 }
 
@@ -224,6 +254,11 @@ impl Term {
     pub fn holds(self, minute: u32) -> bool {
         self.start <= minute && minute < self.start + u32::from(self.length)
     }
+
+    /// Order 2: "start plus length, minus now", below 0 in overrun.
+    pub fn in_hand(self, now: u32) -> i32 {
+        (self.start + u32::from(self.length)) as i32 - now as i32
+    }
 }
 
 #[derive(Clone, Copy, PartialEq, Eq, Debug)]
@@ -256,6 +291,30 @@ impl Authority {
     /// for a TOA or a TWA.
     pub fn is_outside_term(&self, stamp: Stamp) -> bool {
         self.kind == Kind::Lpa && !self.term.is_some_and(|term| term.holds(stamp.minute()))
+    }
+
+    /// Order 2, one line of the sheet: "number, kind, first, last, officer,
+    /// stage (1 pending, 2 in force), site (1 on, 2 clear), minutes in hand",
+    /// which are "blank where there is no term".
+    pub fn sheet_cells(&self, now: u32) -> [Cell; CELLS] {
+        let stage = match self.stage {
+            Stage::Pending => 1,
+            Stage::InForce => 2,
+        };
+        let site = match self.site {
+            Site::WorkersOn => 1,
+            Site::Clear => 2,
+        };
+        [
+            cell(self.number.0),
+            cell(self.kind as u16),
+            cell(self.limits.first()),
+            cell(self.limits.last()),
+            cell(self.officer),
+            cell(stage),
+            cell(site),
+            self.term.map(|term| term.in_hand(now)),
+        ]
     }
 }
 
@@ -317,7 +376,8 @@ pub struct Board {
     pub last_stamp: Stamp,
     pub last_number: u16,
     pub blocked: Gates,
-    /// the live authorities, at most 32, in any order
+    /// the live authorities, at most 32, in "the register's order" of order 2:
+    /// a new one goes to the end, and when one ends the others keep theirs
     pub live: Vec<Authority>,
     /// the trains on the board, at most 32, in any order
     pub trains: Vec<Train>,
@@ -442,7 +502,7 @@ impl Board {
         refuse_if(self.live[at].officer != officer, Refusal::Officer)?;
 
         // "It is live until withdrawn".
-        self.live.swap_remove(at);
+        self.live.remove(at);
         Ok(0)
     }
 
@@ -619,7 +679,7 @@ impl Board {
 
         // "It is live until ... fulfilled". "Trains with it are then with 0.
         // Blocks stay on."
-        let ended = self.live.swap_remove(at).number;
+        let ended = self.live.remove(at).number;
         for train in self.trains.iter_mut().filter(|train| train.with == Some(ended)) {
             train.with = None;
         }
@@ -662,7 +722,7 @@ impl Board {
 
         // "Old ends, new is in force with workers on."
         self.put_in_force(new_at);
-        self.live.swap_remove(old_at);
+        self.live.remove(old_at);
         // "Trains with old are then with new if their head is in its limits,
         // else with 0."
         for train in self.trains.iter_mut().filter(|train| train.with == Some(the_old.number)) {
@@ -773,6 +833,39 @@ impl Board {
 
         this.term = Some(Term { start: start.minute(), length });
         Ok(0)
+    }
+
+    // ----- the shift sheet -----
+
+    /// Order 2: "A portion is held if an authority in force has it in its
+    /// limits."
+    pub fn held(&self) -> Portions {
+        let mut held = Portions(0);
+        for one in self.live.iter().filter(|one| one.is_in_force()) {
+            held.0 |= one.limits.0;
+        }
+        held
+    }
+
+    /// Order 2, the shift sheet: "one line a live authority", "Lines stand in
+    /// the register's order", and "The last line counts the portions held and
+    /// the gates blocked". "The lent buffer must hold 33 lines of 73 bytes;
+    /// later bytes stay and the number of lines comes back."
+    pub fn sheet(&self, buffer: &mut [u8]) -> Result<usize, Refusal> {
+        // 23 "when it is shorter, with nothing written"
+        refuse_if(buffer.len() < SHEET, Refusal::ShortSheet)?;
+
+        // "Now is the last stamp, a day being 1440 minutes."
+        let now = self.last_stamp.minute();
+        let mut lines: Vec<[Cell; CELLS]> = self.live.iter().map(|one| one.sheet_cells(now)).collect();
+        let mut totals = [BLANK; CELLS];
+        totals[0] = cell(self.held().count());
+        totals[1] = cell(self.blocked.count());
+        lines.push(totals);
+        for (cells, line) in lines.iter().zip(buffer.chunks_exact_mut(SHEET_LINE)) {
+            write_sheet_line(cells, line);
+        }
+        Ok(lines.len())
     }
 
     // ----- what several calls ask -----
@@ -919,8 +1012,48 @@ pub fn write_journal_line(numbers: &[u16; 7], answer: u16, allotted: u16) -> [u8
     line
 }
 
+/// Order 2: a number on the sheet, or a blank.
+pub type Cell = Option<i32>;
+pub const BLANK: Cell = None;
+
+fn cell(number: u16) -> Cell {
+    Some(i32::from(number))
+}
+
+/// Order 2: a number "right-justified" behind blanks, the minus sign directly
+/// before the digits. The largest that a register can give is 14465534 and the
+/// least -14389918, which fills the 9 columns.
+fn write_cell(number: i32, columns: &mut [u8]) {
+    columns.fill(b' ');
+    let mut rest = number.unsigned_abs();
+    let mut at = columns.len();
+    loop {
+        at -= 1;
+        columns[at] = b'0' + (rest % 10) as u8;
+        rest /= 10;
+        if rest == 0 {
+            break;
+        }
+    }
+    if number < 0 {
+        columns[at - 1] = b'-';
+    }
+}
+
+/// Order 2: "72 columns wide, blanks to the full width, each line ended by a
+/// line feed"
+fn write_sheet_line(cells: &[Cell; CELLS], line: &mut [u8]) {
+    line[..SHEET_WIDTH].fill(b' ');
+    line[SHEET_WIDTH] = b'\n';
+    for (cell, columns) in cells.iter().zip(line.chunks_exact_mut(CELL)) {
+        if let Some(number) = cell {
+            write_cell(*number, columns);
+        }
+    }
+}
+
 // ---------------------------------------------------------------------------
-// The journal program
+// The journal program and the sheet program
 // ---------------------------------------------------------------------------
 
 /// Lines read and written at a time: some 350 kB in, 450 kB out.
@@ -964,25 +1097,60 @@ pub fn run_calls(board: &mut Board, calls: &mut impl Read, journal: &mut impl Wr
     }
 }
 
-pub fn run() -> io::Result<()> {
-    let mut journal = io::stdout().lock();
+/// Makes all the calls and prints the sheet of the register that they leave. A
+/// malformed call line, which a short last line is too, leaves nothing to sign:
+/// then nothing is printed, and the error names the line.
+pub fn run_sheet(board: &mut Board, calls: &mut impl Read, page: &mut impl Write) -> io::Result<()> {
+    let mut input = vec![0; PIECE * CALL_LINE];
+    let mut made = 0;
+    loop {
+        let filled = fill(calls, &mut input)?;
+        for line in input[..filled].chunks(CALL_LINE) {
+            let Some(numbers) = read_call_line(line) else {
+                return Err(io::Error::other(format!("line {} of calls is malformed", made + 1)));
+            };
+            board.call(&numbers);
+            made += 1;
+        }
+        if filled < input.len() {
+            break;
+        }
+    }
+    let mut buffer = [0; SHEET];
+    let lines = board.sheet(&mut buffer).expect("the buffer holds a sheet");
+    page.write_all(&buffer[..lines * SHEET_LINE])?;
+    page.flush()
+}
+
+pub fn run(sheet: bool) -> io::Result<()> {
+    let mut output = io::stdout().lock();
     // One byte more than the longest right plan shows a plan that is too long.
     let mut plan = [0; PLAN_LINE * (1 + MOST_GATES as usize) + 1];
     let length = fill(&mut File::open("plan")?, &mut plan)?;
     match Board::open(&plan[..length]) {
-        Ok(mut board) => run_calls(&mut board, &mut File::open("calls")?, &mut journal),
+        Ok(mut board) if sheet => run_sheet(&mut board, &mut File::open("calls")?, &mut output),
+        Ok(mut board) => run_calls(&mut board, &mut File::open("calls")?, &mut output),
         Err(refusal) => {
             // "a refused plan prints only `    20` and a line feed"
             let mut line = [b'\n'; COLUMNS + 1];
             write_number(refusal as u16, &mut line[..COLUMNS]);
-            journal.write_all(&line)?;
-            journal.flush()
+            output.write_all(&line)?;
+            output.flush()
         }
     }
 }
 
 pub fn main() -> ExitCode {
-    match run() {
+    let arguments: Vec<String> = env::args().skip(1).collect();
+    let sheet = match arguments.as_slice() {
+        [] => false,
+        [word] if word == "sheet" => true,
+        _ => {
+            eprintln!("usage: reference [sheet]");
+            return ExitCode::FAILURE;
+        }
+    };
+    match run(sheet) {
         Ok(()) => ExitCode::SUCCESS,
         Err(error) => {
             eprintln!("reference: {error}");

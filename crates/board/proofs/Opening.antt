@@ -7,8 +7,9 @@ use Rattle.lists.specs.Prefix.{prefix}
 use Rattle.rules.specs.declared.Register.{Register}
 use Rattle.rules.specs.Board.{boardOf, opened}
 use Rattle.rules.specs.Plan.{openAnswer}
-use Rattle.rules.specs.Step.{Bounds, Once, OpenPost}
+use Rattle.rules.specs.Step.{Bounds, Once, Starts, OpenPost}
 use Rattle.rules.proofs.Once.{once-opened}
+use Rattle.rules.proofs.Terms.{starts-opened}
 use Rattle.plan.specs.declared.text.Plan.{Plan}
 use Rattle.plan.specs.Lines.{PlanRead}
 use Rattle.board.specs.Steps.{freshWith}
@@ -33,5 +34,6 @@ opened-post text p r a h e z =
       kept = record {
         bounds = subst Bounds (sym e) (record { portions = h .portions; gates = h .gates; live = lib.Dec.lit≤ tt; running = lib.Dec.lit≤ tt });
         once = subst Once (sym is) (once-opened (p .portions) (prefix (p .«gate_count») (p .gates)));
+        starts = subst Starts (sym is) (starts-opened (p .portions) (prefix (p .«gate_count») (p .gates)));
       };
     }

@@ -18,10 +18,11 @@ use Rattle.rules.specs.Call.{isCall, inRanges, named, decoded}
 use Rattle.rules.specs.Refusals.{_when_, lowest, early, own, conditions, answer}
 use Rattle.rules.specs.Effects.{effect}
 use Rattle.rules.specs.Journal.{journalLine}
-use Rattle.rules.specs.Step.{Kept, Once, after, allotted, CallPost}
+use Rattle.rules.specs.Step.{Kept, Once, Starts, after, allotted, CallPost}
 use Rattle.rules.proofs.Accepted.{Ranges, in-ranges}
 use Rattle.rules.proofs.Answers.{refused-same, refused-none, short-answer, short-line, long-line}
 use Rattle.rules.proofs.Once.{once-after}
+use Rattle.rules.proofs.Terms.{starts-after}
 use Rattle.places.specs.declared.whole.Head.{Head}
 use Rattle.places.specs.Places.{HeadBounds, boardIn}
 use Rattle.board.specs.Lent.{TakePost}
@@ -148,6 +149,7 @@ taken-accepted r s c out n k e z p m =
       kept = record {
         bounds = record { portions = p .bounds .portions; gates = p .bounds .gates; live = p .bounds .live; running = p .bounds .running };
         once = subst Once (sym is) (once-after b s 55 (k .once));
+        starts = subst Starts (sym is) (starts-after b s 55 (k .starts));
       };
     }
   where

@@ -12,12 +12,11 @@ use borrow.Author.Tests.{lt-ltb, le-ltb, ltb-true, leb-true, le-leb, lt-leb}
 use lib.Dec.{ltb, leb}
 use lib.ListN.{length, take, drop, set, getD, length-append, drop-of-length-le}
 use lib.Seq.{drop-cons, drop-at, take-at, length-take-le, set-split}
-use borrow.Rule.Slice.PartMut.{midOf, putMid, mid-len, post-is}
 use Rattle.lists.proofs.Tests.{truth, same-test, and-l, and-r}
 use Rattle.columns.specs.Column.{digits, column, fits}
 use Rattle.columns.specs.Line.{line, allFit, writable, withLine, Written}
 use Rattle.columns.specs.Steps.{mark}
-use Rattle.columns.proofs.Writing.{count-some, fits-below, below-fits, column-length, front, column-front, total, line-length, writable-known}
+use Rattle.columns.proofs.Writing.{count-some, fits-below, below-fits, column-length, part-done, front, column-front, total, line-length, writable-known}
 
 -- ---- the table
 -- k entries, each ten times the one before it, from p on
@@ -68,15 +67,6 @@ front-step t i j n v h e m =
 pub front-done : (t : List ℕ) (i n : ℕ) → i ≡ 0 → front i n ++ drop i t ≡ t
 unfolding front
 front-done t i n e = rw e
-
--- ---- w bytes from a to e, lent and come back as f of their number
-pub part-length : (a e w : ℕ) (xs : List ℕ) → e ≤ length xs → a + w ≡ e → length (midOf a (e - a) xs) ≡ w
-part-length a e w xs h p = mid-len a e xs h ∙ omega arith
-
-pub part-back : (f : ℕ → List ℕ) (a e w : ℕ) (xs ys : List ℕ) → e ≤ length xs → a + w ≡ e → ys ≡ f (length (midOf a (e - a) xs))
-    → putMid a (e - a) xs ys ≡ take a xs ++ (f w ++ drop e xs)
-part-back f a e w xs ys h p q =
-    ap₂ (λ (y z : List ℕ). take a xs ++ (y ++ z)) (q ∙ ap f (part-length a e w xs h p)) (post-is a e xs (omega arith))
 
 -- ---- a line
 -- the length of a line and of s bytes before it, 0 where they cannot be written
@@ -133,11 +123,8 @@ module _ (k : ℕ) (ws ns : List ℕ) (h : k < length ws) (l : k < length ns) wh
   unfolding line
   line-step at t t′ r f p =
       let w = getD ws k 0 in
-      let done = take at t ++ column w (getD ns k 0) in
-      let e : length done ≡ at + w = simp (length-append, length-take-le at t (omega arith), column-length w (getD ns k 0) f) in
-      rw (p, ← append-assoc (take at t) (column w (getD ns k 0)) (drop (at + w) t), take-at done (drop (at + w) t) (at + w) e)
-      (rw (add-one, drop-cons ws k 0 h, drop-cons ns k 0 l)
-      (sym (append-assoc (take at t) (column w (getD ns k 0)) (line (drop (suc k) ws) (drop (suc k) ns)))))
+      rw (add-one, drop-cons ws k 0 h, drop-cons ns k 0 l)
+      (part-done at w (column w (getD ns k 0)) (line (drop (suc k) ws) (drop (suc k) ns)) t t′ r (column-length w (getD ns k 0) f) p)
 
 -- every number counted
 pub size-end : (room s k : ℕ) (ws ns : List ℕ) → length ws ≤ k → length ns ≤ k → s ≤ room → sizeFrom room s (drop k ws) (drop k ns) ≡ s

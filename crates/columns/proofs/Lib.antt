@@ -6,4 +6,5 @@ mod Scan
 mod Texts
 pub mod Reading
 pub mod Rows
+pub mod Cells
 pub mod Examples

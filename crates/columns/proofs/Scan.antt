@@ -47,7 +47,7 @@ module _ (most v b : ℕ) (s : List ℕ) where
 
 -- ---- digits
 -- what holds below ten, and of a number where it holds of its tenth, holds of every number
-by-tenths : (P : ℕ → Type 0) → ((n : ℕ) → n < 10 → P n) → ((n : ℕ) → 10 ≤ n → P (n / 10) → P n) → (n : ℕ) → P n
+pub by-tenths : (P : ℕ → Type 0) → ((n : ℕ) → n < 10 → P n) → ((n : ℕ) → 10 ≤ n → P (n / 10) → P n) → (n : ℕ) → P n
 by-tenths P one more n = go (suc n) n (omega arith)
   where
     go : (k m : ℕ) → m < k → P m
@@ -111,7 +111,7 @@ bare most [] = Malformed
 bare most (b ∷ s) = cond (eqb b 48) (alone s) (scanDigits most 0 (b ∷ s))
 
 -- the digits of a number start with a digit, which is 0 for the number 0 alone
-starts : (n : ℕ) → (b : ℕ) × (s : List ℕ) × (digits n ≡ b ∷ s) × (48 ≤ b) × (0 < n → 48 < b)
+pub starts : (n : ℕ) → (b : ℕ) × (s : List ℕ) × (digits n ≡ b ∷ s) × (48 ≤ b) × (0 < n → 48 < b)
 starts =
     by-tenths
     (λ n. (b : ℕ) × (s : List ℕ) × (digits n ≡ b ∷ s) × (48 ≤ b) × (0 < n → 48 < b))

@@ -26,7 +26,7 @@ same-eq (a ∷ s) (b ∷ t) e =
     ap₂ (λ (x : ℕ) (l : List ℕ). x ∷ l) (eqb-true a b (and-l (eqb a b) (sameText s t) e)) (same-eq s t (and-r (eqb a b) (sameText s t) e))
 
 -- the digits of a column make the number; blanks add nothing
-value-blanks : (k : ℕ) (s : List ℕ) → valueFrom 0 (replicate k 32 ++ s) ≡ valueFrom 0 s
+pub value-blanks : (k : ℕ) (s : List ℕ) → valueFrom 0 (replicate k 32 ++ s) ≡ valueFrom 0 s
 unfolding valueFrom
 value-blanks zero s = refl
 value-blanks (suc k) s = value-blanks k s

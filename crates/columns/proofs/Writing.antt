@@ -1,6 +1,6 @@
 -- Laws of writing, for every number and width: which numbers fit, how long a column and a line are, and when a line can be written.
 -- Assumes nothing.
-use mathlib.Core.Path.{_≡_, refl, sym, ap}
+use mathlib.Core.Path.{_≡_, refl, sym, ap, ap₂, _∙_}
 use mathlib.Core.Logic.{inl, inr}
 use mathlib.Core.Bool.{true, false≢true}
 use mathlib.Core.List.{List, [], _∷_, _++_, append-assoc}
@@ -10,7 +10,9 @@ use native.Mathlib.Nat.{pow-suc, pow-le-pow-right}
 use native.Mathlib.Numerals.{add-one}
 use borrow.Author.Tests.{leb-true, le-leb, ne-eqb}
 use lib.Dec.{leb}
-use lib.ListN.{length, replicate, length-append, length-replicate, length-drop, replicate-append-replicate}
+use lib.ListN.{length, take, drop, replicate, length-append, length-replicate, length-drop, replicate-append-replicate}
+use lib.Seq.{length-take-le, take-at}
+use borrow.Rule.Slice.PartMut.{midOf, putMid, mid-len, post-is}
 use Rattle.lists.proofs.Tests.{lt-or-le, and-l, and-r}
 use Rattle.columns.specs.Column.{digits, column, fits}
 use Rattle.columns.specs.Line.{line, allFit, writable, withLine}
@@ -95,6 +97,23 @@ unfolding fits
 column-front w n e =
     let h : length (digits n) ≤ suc w = leb-true (length (digits n)) (suc w) e in
     last-column w n (λ l. front-column w (n / 10) (omega arith) (omega (arith, count-more n l)))
+
+-- ---- w bytes from a to e, lent and come back as f of their number
+pub part-length : (a e w : ℕ) (xs : List ℕ) → e ≤ length xs → a + w ≡ e → length (midOf a (e - a) xs) ≡ w
+part-length a e w xs h p = mid-len a e xs h ∙ omega arith
+
+pub part-back : (f : ℕ → List ℕ) (a e w : ℕ) (xs ys : List ℕ) → e ≤ length xs → a + w ≡ e → ys ≡ f (length (midOf a (e - a) xs))
+    → putMid a (e - a) xs ys ≡ take a xs ++ (f w ++ drop e xs)
+part-back f a e w xs ys h p q =
+    ap₂ (λ (y z : List ℕ). take a xs ++ (y ++ z)) (q ∙ ap f (part-length a e w xs h p)) (post-is a e xs (omega arith))
+
+-- ---- a text written part by part: x stored in the w bytes from at, with y still to come
+pub part-done : (at w : ℕ) (x y t t′ : List ℕ) → at + w ≤ length t → length x ≡ w → t′ ≡ take at t ++ (x ++ drop (at + w) t)
+    → take at t ++ (x ++ y) ≡ take (at + w) t′ ++ y
+part-done at w x y t t′ r e p =
+    let l : length (take at t ++ x) ≡ at + w = simp (length-append, length-take-le at t (omega arith)) (omega arith) in
+    rw (p, ← append-assoc (take at t) x (drop (at + w) t), take-at (take at t ++ x) (drop (at + w) t) (at + w) l)
+    (sym (append-assoc (take at t) x y))
 
 -- ---- a line
 -- the sum of the widths

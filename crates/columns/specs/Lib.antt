@@ -2,5 +2,6 @@
 pub mod Column
 pub mod Line
 pub mod Reading
+pub mod Cells
 pub mod Steps
 pub mod Text

@@ -12,7 +12,7 @@ pub enum Read {
 }
 
 // How many blanks the text starts with.
-fn blanks_of(text: &[u8]) -> usize
+pub fn blanks_of(text: &[u8]) -> usize
     ensures { λ r. ⌜ r ≡ blanks (now (text .entry)) ⌝ }
 {
     let mut i = 0;

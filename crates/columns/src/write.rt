@@ -23,11 +23,11 @@ const TOO_WIDE: [u32; 10] = [
 ];
 
 // n has no more digits than width.
-fn is_fitting(width: u8, n: u32) -> bool
+pub fn is_fitting(width: usize, n: u32) -> bool
     ensures { λ r. ⌜ r ≡ fits width n ⌝ }
 {
     if width < 10 {
-        n < TOO_WIDE[width as usize]
+        n < TOO_WIDE[width]
     } else {
         true
     }
@@ -45,7 +45,7 @@ fn mark_of(rest: u32) -> u8
 }
 
 // Fills the whole slice with a number that fits.
-fn fill(t: &mut [u8], n: u32)
+pub fn fill(t: &mut [u8], n: u32)
     requires { ⌜ fits (length (now t)) n ≡ true ⌝ }
     ensures { λ _. ⌜ now (t .exit) ≡ column (length (now (t .entry))) n ⌝ }
 {
@@ -84,15 +84,14 @@ fn line_size(widths: &[u8], numbers: &[u32], room: usize) -> usize
     let mut size = 1;
     let mut k = 0;
     while k < widths.len() {
-        let w = widths[k];
+        let w = widths[k] as usize;
         if !is_fitting(w, numbers[k]) {
             return 0;
         }
-        let width = w as usize;
-        if room - size < width {
+        if room - size < w {
             return 0;
         }
-        size += width;
+        size += w;
         k += 1;
     }
     size

@@ -25,6 +25,6 @@ pub fn say_malformed(line: u64) {
     io::print_decimal(STDERR_FILENO, line);
     io::write_all(
         STDERR_FILENO,
-        b" is malformed, and the journal stops before it\n",
+        b" is malformed, and no call is made from it on\n",
     );
 }

@@ -1,5 +1,6 @@
 -- Laws of the searches and changes of specs/Search.antt: by membership, and for two lists one behind the other. Assumes nothing.
 use Prim.Native.Nat.{ℕ, zero, suc, _≤_, _<_}
+use native.Mathlib.Nat.{eq-or-lt-of-le, le-of-suc-le-suc}
 use native.Mathlib.Omega.{arith}
 use native.Mathlib.Decide.{ℕ-discrete}
 use mathlib.Core.Path.{_≡_, refl, sym, ap, subst, _∙_}
@@ -7,7 +8,7 @@ use mathlib.Core.Logic.{_⊎_, inl, inr, ⊎-elim}
 use mathlib.Core.Bool.{Bool, true, false, cond, _||_, false≢true, or-assoc}
 use mathlib.Core.List.{List, [], _∷_, _++_, List·Memᴰ, List·Memᴰ·head, List·Memᴰ·tail, List·Memᴰ·cases-cons}
 use lib.ListN.{length, getD}
-use Rattle.lists.specs.Search.{any, first, keep, change, below}
+use Rattle.lists.specs.Search.{any, first, last, keep, change, below}
 use Rattle.lists.proofs.Tests.{truth, clash, or-no-l, or-no-r, or-no}
 
 module _ {A : Type 0} where
@@ -61,6 +62,13 @@ module _ {A : Type 0} where
   unfolding any first
   first-none test d [] h = refl
   first-none test d (y ∷ ys) h = none-step d y (first test d ys) (test y) (any test ys) h (first-none test d ys)
+
+  -- ---- the last that passes
+
+  pub last-none : (test : A → Bool) (d : A) (xs : List A) → any test xs ≡ false → last test d xs ≡ d
+  unfolding any last
+  last-none test d [] h = refl
+  last-none test d (y ∷ ys) h = rw (or-no-l (test y) (any test ys) h) (last-none test d ys (or-no-r (test y) (any test ys) h))
 
   -- ---- those that pass
 
@@ -194,3 +202,37 @@ some-below n test e =
 
 pub below-some : (n : ℕ) (test : ℕ → Bool) (p : ℕ) → p < n → test p ≡ true → any test (below n) ≡ true
 below-some n test p l h = any-yes test (below n) p (below-has n p l) h
+
+-- they stand from the greatest on: the first that passes is p where p does and none above it
+pub first-below : (n d : ℕ) (test : ℕ → Bool) (p : ℕ) → p < n → test p ≡ true → ((q : ℕ) → p < q → q < n → test q ≡ false)
+    → first test d (below n) ≡ p
+unfolding first below
+first-below zero d test p l h none = absurd (omega arith)
+first-below (suc n) d test p l h none =
+    ⊎-elim (λ (e : p ≡ n). rw (← e, h))
+    (λ (g : p < n). rw (none n g (omega arith)) (first-below n d test p g h (λ q a b. none q a (omega arith)))) (eq-or-lt-of-le (le-of-suc-le-suc l))
+
+-- and the last that passes is p where p does and none below it
+pub last-below : (n d : ℕ) (test : ℕ → Bool) (p : ℕ) → p < n → test p ≡ true → ((q : ℕ) → q < p → test q ≡ false)
+    → last test d (below n) ≡ p
+unfolding last below
+last-below zero d test p l h none = absurd (omega arith)
+last-below (suc n) d test p l h none =
+    ⊎-elim (λ (e : p ≡ n). rw (← e, h) (last-none test p (below p) (below-none p test none)))
+    (λ (g : p < n). last-below n (cond (test n) n d) test p g h none) (eq-or-lt-of-le (le-of-suc-le-suc l))
+
+cond-most : (t : Bool) (x y m : ℕ) → x ≤ m → y ≤ m → cond t x y ≤ m
+cond-most true x y m h k = h
+cond-most false x y m h k = k
+
+-- neither is above m, where no number below n is and what stands for none is not
+pub first-most : (n d m : ℕ) (test : ℕ → Bool) → n ≤ m → d ≤ m → first test d (below n) ≤ m
+unfolding first below
+first-most zero d m test l h = h
+first-most (suc n) d m test l h = cond-most (test n) n _ m (omega arith) (first-most n d m test (omega arith) h)
+
+pub last-most : (n d m : ℕ) (test : ℕ → Bool) → n ≤ m → d ≤ m → last test d (below n) ≤ m
+unfolding last below
+last-most zero d m test l h = h
+last-most (suc n) d m test l h =
+    last-most n (cond (test n) n d) m test (omega arith) (cond-most (test n) n d m (omega arith) h)

@@ -14,6 +14,11 @@ module _ {A : Type 0} where
   first test d [] = d
   first test d (x ∷ xs) = cond (test x) x (first test d xs)
 
+  -- the last element that passes the test, or d where none does
+  unfoldable pub last : (A → Bool) → A → List A → A
+  last test d [] = d
+  last test d (x ∷ xs) = last test (cond (test x) x d) xs
+
   -- the elements that pass the test, in their order
   unfoldable pub keep : (A → Bool) → List A → List A
   keep test [] = []

@@ -1,7 +1,8 @@
-// The cases that no file of calls can show: buffers of other lengths, and the last number allotted.
+// The cases that no file of calls can show: buffers of other lengths, for a line and for a page, and the last number allotted.
 ghost use Rattle.rules.specs.Step.{Kept};
 use crate::scenario::open_board;
 use crate::scenario::put_call;
+use crate::scenario::run_files;
 use folder::print;
 use folder::print_number;
 use rules::Register;
@@ -86,9 +87,35 @@ pub fn last_number() {
     print(b"9999 numbers allotted\n");
     let opened = open_board(b"plan-line");
     let register = nearly_all_allotted(opened.register);
-    let register = put_call(register, request());
-    let register = put_call(register, request());
-    let register = put_call(register, withdraw(9999));
-    let register = put_call(register, request());
-    put_call(register, withdraw(9999));
+    let register = put_call(register, request(), true);
+    let register = put_call(register, request(), true);
+    let register = put_call(register, withdraw(9999), true);
+    let register = put_call(register, request(), true);
+    put_call(register, withdraw(9999), true);
+}
+
+// Writes the sheet into the buffer given; prints the answer and the number of lines, then the whole buffer as it comes back.
+fn sheet_into(register: Register, buffer: &mut [u8])
+    requires { ⌜ Kept register ⌝ }
+{
+    let written = sheet::write_sheet(register, buffer);
+    print_number(written.answer);
+    print_number((written.lines % 65536) as u16);
+    print(buffer);
+    print(b"\n");
+}
+
+// 2408 bytes give 23 and stay as they were; 2409 serve, and later bytes stay, also of 2500; with 32 authorities live 2409 are filled.
+pub fn pages() {
+    print(b"pages of 2408, 2409 and 2500 bytes\n");
+    let register = run_files(b"plan-line", b"calls-e1-e6", false);
+    let mut short = [46u8; 2408];
+    sheet_into(register, &mut short);
+    let mut just = [46u8; 2409];
+    sheet_into(register, &mut just);
+    let mut long = [46u8; 2500];
+    sheet_into(register, &mut long);
+    print(b"a page of 33 lines in 2409 bytes\n");
+    let full = run_files(b"plan-full", b"calls-sheet-32", false);
+    sheet_into(full, &mut just);
 }

@@ -20,7 +20,7 @@ fn until(text: &[u8], mark: u8) -> usize
 }
 
 // Runs the scenario of a line, which comes with its line feed: the heading's last byte.
-fn run_line(line: &[u8]) {
+fn run_line(line: &[u8], sheet: bool) {
     let plan_end = until(line, b' ');
     if plan_end == line.len() {
         print(b"malformed\n");
@@ -33,11 +33,11 @@ fn run_line(line: &[u8]) {
         print(b"malformed\n");
         return;
     }
-    scenario(&rest[calls_end + 1..], plan, &rest[0..calls_end]);
+    scenario(&rest[calls_end + 1..], plan, &rest[0..calls_end], sheet);
 }
 
 // Runs the scenarios of the list, line by line. A last line without a line feed is malformed.
-fn run_lines(list: &[u8]) {
+fn run_lines(list: &[u8], sheet: bool) {
     let mut at = 0;
     while at < list.len() {
         let end = at + until(&list[at..], b'\n');
@@ -45,15 +45,15 @@ fn run_lines(list: &[u8]) {
             print(b"malformed\n");
             return;
         }
-        run_line(&list[at..end + 1]);
+        run_line(&list[at..end + 1], sheet);
         at = end + 1;
     }
 }
 
-// Runs the scenarios of the file. There is room for some 300 lines.
-pub fn run_list() {
+// Runs the scenarios of the file: each with its journal, or with the sheet after its calls. There is room for some 300 lines.
+pub fn run_list(file: &[u8], sheet: bool) {
     let mut text = [0u8; 16384];
-    let filled = read_file(b"scenarios", &mut text);
+    let filled = read_file(file, &mut text);
     let n = filled.bytes;
-    run_lines(&text[..n]);
+    run_lines(&text[..n], sheet);
 }

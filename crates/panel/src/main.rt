@@ -5,7 +5,9 @@ mod list;
 mod scenario;
 
 fn main() {
-    list::run_list();
+    list::run_list(b"scenarios", false);
     edges::buffers();
     edges::last_number();
+    list::run_list(b"sheets", true);
+    edges::pages();
 }

@@ -1,9 +1,11 @@
-// One scenario: a board opened from a plan's file, the calls of a second file put to it one by one, and their journal printed.
+// One scenario: a board opened from a plan's file, the calls of a second file put to it one by one, and their journal printed, or the sheet after
+// them.
 ghost use Rattle.rules.specs.Step.{Kept};
 use calls::Line;
 use calls::read_line;
 use folder::print;
 use folder::print_number;
+use folder::print_page;
 use folder::read_file;
 use rules::Opened;
 use rules::Register;
@@ -19,19 +21,21 @@ pub fn open_board(plan: &[u8]) -> Opened
     board::open(&text[..n])
 }
 
-// Puts one call to the board and prints its line.
-pub fn put_call(register: Register, seven: Seven) -> Register
+// Puts one call to the board and prints its line, if asked.
+pub fn put_call(register: Register, seven: Seven, printing: bool) -> Register
     requires { ⌜ Kept register ⌝ }
     ensures { λ r. ⌜ Kept r ⌝ }
 {
     let mut line = [0u8; 55];
     let called = board::call(register, seven, &mut line);
-    print(&line);
+    if printing {
+        print(&line);
+    }
     called.register
 }
 
 // Reads a call line, 43 bytes, and puts its call to the board.
-fn put_line(register: Register, text: &[u8]) -> Register
+fn put_line(register: Register, text: &[u8], printing: bool) -> Register
     requires { ⌜ Kept register ⌝ }
     ensures { λ r. ⌜ Kept r ⌝ }
 {
@@ -39,24 +43,27 @@ fn put_line(register: Register, text: &[u8]) -> Register
         print(b"malformed\n");
         return register;
     };
-    put_call(register, seven)
+    put_call(register, seven, printing)
 }
 
 // Puts the calls to the board, line by line.
-fn put_lines(opened: Register, calls: &[u8])
+fn put_lines(opened: Register, calls: &[u8], printing: bool) -> Register
     requires { ⌜ Kept opened ⌝ }
+    ensures { λ r. ⌜ Kept r ⌝ }
 {
     let mut register = opened;
     let mut at = 0;
     while calls.len() - at >= 43 {
-        register = put_line(register, &calls[at..at + 43]);
+        register = put_line(register, &calls[at..at + 43], printing);
         at += 43;
     }
+    register
 }
 
-// Prints the heading, the answer to a refused plan, and the journal of at most 100 calls.
-pub fn scenario(heading: &[u8], plan: &[u8], calls: &[u8]) {
-    print(heading);
+// Opens a board from a plan's file, prints the answer if it is refused, and puts at most 100 calls to it, their journal printed if asked.
+pub fn run_files(plan: &[u8], calls: &[u8], printing: bool) -> Register
+    ensures { λ r. ⌜ Kept r ⌝ }
+{
     let opened = open_board(plan);
     if opened.answer != 0 {
         print_number(opened.answer);
@@ -64,5 +71,14 @@ pub fn scenario(heading: &[u8], plan: &[u8], calls: &[u8]) {
     let mut text = [0u8; 4300];
     let filled = read_file(calls, &mut text);
     let n = filled.bytes;
-    put_lines(opened.register, &text[..n]);
+    put_lines(opened.register, &text[..n], printing)
+}
+
+// Prints the heading, and the journal of the calls or the sheet after them.
+pub fn scenario(heading: &[u8], plan: &[u8], calls: &[u8], sheet: bool) {
+    print(heading);
+    let register = run_files(plan, calls, !sheet);
+    if sheet {
+        print_page(register);
+    }
 }

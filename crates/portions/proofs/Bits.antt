@@ -17,7 +17,7 @@ use Rattle.lists.proofs.Tests.{lt-or-le, same-test, and-l, and-r, and-i, clash}
 use Rattle.portions.specs.Sets.{has}
 
 -- what holds of both digits holds of a number's last digit; what holds of every two, of the last digits of two numbers
-digit : (P : ℕ → Type 0) → P 0 → P 1 → (a : ℕ) → P (a % 2)
+pub digit : (P : ℕ → Type 0) → P 0 → P 1 → (a : ℕ) → P (a % 2)
 digit P h0 h1 a = go (a % 2) (omega arith)
   where
     go : (x : ℕ) → x < 2 → P x
@@ -34,11 +34,11 @@ unfolding has
 has-down p k set = rw shr-shr
 
 -- 0 is a member where the number is odd, and p + 1 where p is a member of the half
-has-odd : (set : ℕ) → has 0 set ≡ eqb (set % 2) 1
+pub has-odd : (set : ℕ) → has 0 set ≡ eqb (set % 2) 1
 unfolding has
 has-odd set = rw div-one
 
-has-half : (p set : ℕ) → has (suc p) set ≡ has p (set / 2)
+pub has-half : (p set : ℕ) → has (suc p) set ≡ has p (set / 2)
 has-half p set = sym (has-down p 1 set ∙ rw one-add)
 
 -- no number is a member of 0

@@ -1,8 +1,8 @@
 -- Worked examples, computed. Assumes nothing.
 use mathlib.Core.Path.{_≡_, refl}
 use mathlib.Core.Bool.{true, false}
-use Rattle.lists.specs.Search.{any, below}
-use Rattle.portions.specs.Sets.{has, setOf, run, insert, remove, shares, subset}
+use Rattle.lists.specs.Search.{any, first, last, keep, below}
+use Rattle.portions.specs.Sets.{has, setOf, run, insert, remove, shares, subset, union, size, least, greatest}
 
 -- all the numbers below 64; the last alone; a run that ends before it starts; runs that go past 63
 all : run 0 63 ≡ 18446744073709551615
@@ -64,3 +64,42 @@ part = refl
 whole : subset (run 0 63) (run 5 40) ≡ false
 unfolding subset any below has run setOf
 whole = refl
+
+-- runs that overlap, joined
+joined : union (run 0 1) (run 1 2) ≡ run 0 2
+unfolding union has run setOf
+joined = refl
+
+-- how many: all 64 of them, and none
+size-all : size (run 0 63) ≡ 64
+unfolding size keep below has run setOf
+size-all = refl
+
+size-none : size 0 ≡ 0
+unfolding size keep below has
+size-none = refl
+
+-- the least and the greatest: of a run, of one member, and 64 of no member
+least-of-run : least (run 5 40) ≡ 5
+unfolding least last below has run setOf
+least-of-run = refl
+
+greatest-of-run : greatest (run 5 40) ≡ 40
+unfolding greatest first below has run setOf
+greatest-of-run = refl
+
+least-of-one : least (run 63 63) ≡ 63
+unfolding least last below has run setOf
+least-of-one = refl
+
+greatest-of-one : greatest (run 63 63) ≡ 63
+unfolding greatest first below has run setOf
+greatest-of-one = refl
+
+least-of-none : least 0 ≡ 64
+unfolding least last below has
+least-of-none = refl
+
+greatest-of-none : greatest 0 ≡ 64
+unfolding greatest first below has
+greatest-of-none = refl

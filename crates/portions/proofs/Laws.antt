@@ -2,19 +2,24 @@
 use mathlib.Core.Path.{_≡_, refl, sym, ap, _∙_}
 use mathlib.Core.Logic.{⊎-elim}
 use mathlib.Core.Bool.{Bool, true, false, cond, not, _&&_, _||_, and-true, and-false, or-false}
-use Prim.Native.Nat.{ℕ, zero, suc, _+_, _*_, _^_, _≤_, _<_}
+use mathlib.Core.List.{List, _∷_}
+use Prim.Native.Nat.{ℕ, zero, suc, _+_, _*_, _/_, _%_, _^_, _≤_, _<_}
 use native.Mathlib.Nat.{zero-add, one-mul, le-refl, le-of-suc-le-suc, not-suc-le-zero, pow-suc, eq-or-lt-of-le, lt-of-lt-of-le, lt-of-le-of-lt}
-use native.Mathlib.Numerals.{add-one}
+use native.Mathlib.Nat.{mod-one, mod-lt, mod-eq-of-lt}
+use native.Mathlib.Numerals.{add-one, one-add}
 use native.Mathlib.Omega.{arith}
 use borrow.Author.Tests.{leb-true, eqb-true, lt-ltb, le-ltb, le-leb, eq-eqb, ne-eqb, eqb-false}
 use lib.Dec.{eqb, ltb, leb}
-use lib.Pow.{pow-pos, pow-mono}
+use lib.Pow.{pow-pos, pow-mono, mod-pow-add}
 use lib.Bits.{bitAnd, bitOr, or-shifted, and-le-l}
-use Rattle.lists.specs.Search.{below}
+use lib.Count.{ones, ones-cat, ones-ones}
+use lib.ListN.{length}
+use Rattle.lists.specs.Search.{keep, below}
 use Rattle.lists.proofs.Search.{none-below, below-none, some-below, below-some}
 use Rattle.lists.proofs.Tests.{lt-or-le, truth, clash, same-test, and-l, and-r, and-i, and-no-r, or-no, not-yes, not-no}
 use Rattle.portions.specs.Sets.{has, setOf, between, run, isOrIn, insert, isNotAndIn, remove, inBoth, shares, inFirstOnly, subset}
-use Rattle.portions.proofs.Bits.{same-members, has-none, has-high, has-and, has-or, has-power}
+use Rattle.portions.specs.Sets.{inEither, union, isMember, size}
+use Rattle.portions.proofs.Bits.{digit, same-members, has-none, has-high, has-and, has-or, has-power}
 
 -- ---- the set of the numbers below n that pass the test
 
@@ -112,6 +117,18 @@ unfolding remove
 has-remove p set q h =
     closed-setOf 64 (isNotAndIn p set) q (λ out. rw (has-high 64 q set h out, and-false))
 
+-- ---- the members of two sets
+
+-- they are a set of numbers below 64
+pub union-lt : (a b : ℕ) → union a b < 2 ^ 64
+unfolding union
+union-lt a b = setOf-lt 64 (inEither a b)
+
+-- a number below 64 is a member where one of the two has it
+pub has-union : (a b p : ℕ) → p < 64 → has p (union a b) ≡ (has p a || has p b)
+unfolding union
+has-union a b p l = in-setOf 64 (inEither a b) p l
+
 -- ---- a loop that builds the set of the numbers that pass, one number a turn
 
 -- before the first number it is empty
@@ -186,3 +203,23 @@ subset-and a b h =
     (λ e. eq-eqb _ a (same-members 64 _ a (lt-of-le-of-lt (and-le-l a b) h) h
     (λ p l. has-and p a b ∙ same-test _ _ (and-l _ _) (λ q. and-i _ _ q (subset-each a b e p l q)))))
     (λ e. each-subset a b (λ p l q. and-r (has p a) _ (sym (has-and p a b) ∙ ap (has p) (eqb-true _ a e) ∙ q)))
+
+-- ---- how many members
+
+-- a digit adds itself to the count of ones, and its number to the members
+count-next : (set n : ℕ) (l : List ℕ) → ones (set / 2 ^ n % 2) + length l ≡ length (cond (has n set) (n ∷ l) l)
+unfolding has ones
+count-next set n l =
+    digit (λ x. ones x + length l ≡ length (cond (eqb x 1) (n ∷ l) l)) (zero-add (length l)) (one-add (length l)) (set / 2 ^ n)
+
+-- the ones among the digits below n are the members below n
+ones-below : (n set : ℕ) → ones (set % 2 ^ n) ≡ length (keep (isMember set) (below n))
+unfolding keep below
+ones-below zero set = rw mod-one (ones-ones 0)
+ones-below (suc n) set =
+    rw (← one-add n, mod-pow-add, ones-cat n (set / 2 ^ n % 2) (set % 2 ^ n) (mod-lt set (pow-pos n)), ones-below n set) (count-next set n _)
+
+-- the count of ones is the number of members
+pub size-ones : (set : ℕ) → set < 2 ^ 64 → ones set ≡ size set
+unfolding size
+size-ones set h = ap ones (sym (mod-eq-of-lt h)) ∙ ones-below 64 set

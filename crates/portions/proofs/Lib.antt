@@ -1,4 +1,5 @@
 -- The laws of sets that the crates above cite.
 pub mod Bits
 pub mod Laws
+pub mod Ends
 pub mod Examples

@@ -3,7 +3,8 @@
 use Prim.Native.Nat.{ℕ, zero, suc, _+_, _/_, _%_, _^_}
 use mathlib.Core.Bool.{Bool, cond, not, _&&_, _||_}
 use lib.Dec.{eqb, leb}
-use Rattle.lists.specs.Search.{any, below}
+use lib.ListN.{length}
+use Rattle.lists.specs.Search.{any, first, last, keep, below}
 
 -- p is a member of the set
 unfoldable pub has : ℕ → ℕ → Bool
@@ -48,3 +49,24 @@ inFirstOnly a b p = has p a && not (has p b)
 
 unfoldable pub subset : ℕ → ℕ → Bool
 subset a b = not (any (inFirstOnly a b) (below 64))
+
+-- the members of a and those of b
+abbrev pub inEither : ℕ → ℕ → ℕ → Bool
+inEither a b p = has p a || has p b
+
+unfoldable pub union : ℕ → ℕ → ℕ
+union a b = setOf 64 (inEither a b)
+
+-- how many members the set has
+abbrev pub isMember : ℕ → ℕ → Bool
+isMember set p = has p set
+
+unfoldable pub size : ℕ → ℕ
+size set = length (keep (isMember set) (below 64))
+
+-- the least and the greatest member, 64 where there is none: the numbers below 64 stand from the greatest on
+unfoldable pub least : ℕ → ℕ
+least set = last (isMember set) 64 (below 64)
+
+unfoldable pub greatest : ℕ → ℕ
+greatest set = first (isMember set) 64 (below 64)

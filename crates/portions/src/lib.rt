@@ -50,3 +50,34 @@ pub fn without(set: u64, p: u16) -> u64
 {
     if p < 64 { set & !(1u64 << p) } else { set }
 }
+
+// The members of a and those of b.
+pub fn union(a: u64, b: u64) -> u64
+    ensures { λ r. ⌜ r ≡ Sets.union a b ⌝ }
+{
+    a | b
+}
+
+// How many members the set has: the count of ones.
+pub fn size(set: u64) -> u32
+    ensures { λ r. ⌜ r ≡ Sets.size set ⌝ }
+{
+    u64::count_ones(set)
+}
+
+// The least member of the set, 64 where it has none.
+pub fn least(set: u64) -> u32
+    ensures { λ r. ⌜ r ≡ Sets.least set ⌝ }
+{
+    u64::trailing_zeros(set)
+}
+
+// The greatest member of the set, 64 where it has none.
+pub fn greatest(set: u64) -> u32
+    ensures { λ r. ⌜ r ≡ Sets.greatest set ⌝ }
+{
+    if set == 0 {
+        return 64;
+    }
+    63 - u64::leading_zeros(set)
+}

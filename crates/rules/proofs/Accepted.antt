@@ -12,11 +12,12 @@ use Rattle.rules.specs.declared.Seven.{Seven}
 use Rattle.rules.specs.declared.Call.{Call}
 use Rattle.rules.specs.declared.Call.the-variants.{NoSuchCall, BadField, Request, Withdraw, Agree, Block, Unblock, Grant, Clear, Reoccupy, HandOver, Fulfil, Continue, Move, Passed, Term}
 use Rattle.rules.specs.Board.{Board}
-use Rattle.rules.specs.Call.{Entry, inRange, calls, noEntry, entryOf, isCall, named, inForm, inRanges}
+use Rattle.rules.specs.Call.{Entry, isDay, isTime, inRange, calls, noEntry, entryOf, isCall, named, inForm, inRanges}
 use Rattle.rules.specs.Refusals.{_when_, own, conditions, answer}
 use Rattle.rules.proofs.Answers.{NoneHolds, conditionAt, at-none, accepted-none}
 
--- what the number and the ranges say: it is a call, its portions are in order and on the board, its gate is one of the board's
+-- what the number and the ranges say: it is a call, its portions are in order and on the board, its gate is one of the board's, its day and time
+-- are those of a clock
 abbrev pub Ranges : Board → Call → Type 0
 Ranges b NoSuchCall = ⊥
 Ranges b BadField = ⊥
@@ -33,7 +34,7 @@ Ranges b (Fulfil n officer assurances) = Unit {0}
 Ranges b (Continue old new officerOld officerNew) = Unit {0}
 Ranges b (Move t g n officer) = g .0 < length (b .gates)
 Ranges b (Passed t) = Unit {0}
-Ranges b (Term n day time length) = Unit {0}
+Ranges b (Term n day time length) = (isDay day ≡ true) × (isTime time ≡ true)
 
 pub record Accepted (b : Board) (s : Seven) (c : Call) : Type 0 where
   pub ranges : Ranges b c
@@ -49,7 +50,7 @@ unfolding entryOf isCall calls inForm inRange
 entry-ranges b s zero c = absurd (false≢true c)
 entry-ranges b s (suc n) c =
     each-at (EntryRanges b s) noEntry calls
-    (λ h. (search (told, leb-true, h), search (told, ltb-true, h)), (λ h. tt, (λ h. tt, (λ h. search (told, ltb-true, h), (λ h. search (told, ltb-true, h), (λ h. tt, (λ h. tt, (λ h. tt, (λ h. tt, (λ h. tt, (λ h. tt, (λ h. search (told, ltb-true, h), (λ h. tt, (λ h. tt, tt))))))))))))))
+    (λ h. (search (told, leb-true, h), search (told, ltb-true, h)), (λ h. tt, (λ h. tt, (λ h. search (told, ltb-true, h), (λ h. search (told, ltb-true, h), (λ h. tt, (λ h. tt, (λ h. tt, (λ h. tt, (λ h. tt, (λ h. tt, (λ h. search (told, ltb-true, h), (λ h. tt, (λ h. (search (told, h), search (told, h)), tt))))))))))))))
     n (let l : suc n ≤ 14 = search (told, leb-true, c) in omega arith)
 
 -- a call with a number that a call has and fields in their ranges

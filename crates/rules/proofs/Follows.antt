@@ -45,6 +45,7 @@ pub record Held (requests : ℕ) (x : Reckoned) (a : Authority) : Type 0 where
   pub kind : x .kind ≡ a .kind
   pub into : (p : ℕ) → has p (a .limits) ≡ true → In x p
   pub from : (p : ℕ) → In x p → has p (a .limits) ≡ true
+  pub first : x .first ≤ x .last
   pub last : x .last < 64
   pub force : x .inForce ≡ inForce a
   pub site : inForce a ≡ true → x .workersOn ≡ workersOn a

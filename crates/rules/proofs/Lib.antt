@@ -14,3 +14,4 @@ pub mod Equality
 pub mod Lines
 pub mod Traces
 pub mod Terms
+pub mod Sheets

@@ -77,6 +77,7 @@ held-anew x y a c h n k l ky fy ly f v g = record {
   kind = ky ∙ h .kind ∙ sym k;
   into = λ p e. let i = h .into p (sym (ap (has p) l) ∙ e) in omega arith;
   from = λ p i. ap (has p) l ∙ h .from p (omega arith);
+  first = omega (arith, h .first);
   last = omega (arith, h .last);
   force = f;
   site = v;
@@ -130,6 +131,7 @@ module _ (b : Board) (r : Reckoning.Reckoning) (F : Follows b r) (S : Safe (b .g
         kind = refl;
         into = λ p e. in-run first last p e;
         from = λ p i. run-in first last p (i .0) (i .1) (omega (arith, ok .ranges, F .portions));
+        first = ok .ranges .0;
         last = omega (arith, ok .ranges, F .portions);
         force = ⊎-elim (λ f. absurd (unused f)) (λ e. e) (truth (r .authority n .inForce));
         site = λ e. absurd (false≢true e);
@@ -151,6 +153,7 @@ module _ (b : Board) (r : Reckoning.Reckoning) (F : Follows b r) (S : Safe (b .g
             kind = h .kind;
             into = h .into;
             from = h .from;
+            first = h .first;
             last = h .last;
             force = h .force;
             site = h .site;

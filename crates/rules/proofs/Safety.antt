@@ -17,7 +17,7 @@ use Rattle.rules.specs.Call.{named}
 use Rattle.rules.specs.Refusals.{answer}
 use Rattle.rules.specs.Effects.{effect}
 use Rattle.rules.specs.Plan.{openBoard}
-use Rattle.rules.specs.Step.{Made, after, trace}
+use Rattle.rules.specs.Step.{Made, after, trace, final}
 use Rattle.rules.specs.Reckoning.{Reckoning, start, reckon, reckoned}
 use Rattle.rules.specs.Claim.{Safe}
 use Rattle.rules.proofs.Accepted.{Accepted, accepted}
@@ -83,29 +83,30 @@ stamp-follows day time b r F = record {
   blocks = F .blocks;
 }
 
--- what is to be shown of a list of calls from a board and a reckoning
-abbrev Holds : Board → Reckoning → List Made → Type 0
-Holds b r ms = Safe (b .gates) (reckoned (b .gates) r (trace b ms))
+-- what is to be shown of a list of calls from a board and a reckoning: what is reckoned is safe, and the board after the list follows it
+pub record Holds (gates : List Gate) (last : Board) (r : Reckoning) : Type 0 where
+  pub safe : Safe gates r
+  pub follows : Follows last r
 
 list-step : (b : Board) (r : Reckoning) (m : Made) (ms : List Made)
-    → ((b′ : Board) (r′ : Reckoning) → Follows b′ r′ → Safe (b′ .gates) r′ → Holds b′ r′ ms)
+    → ((b′ : Board) (r′ : Reckoning) → Follows b′ r′ → Safe (b′ .gates) r′ → Holds (b′ .gates) (final b′ ms) (reckoned (b′ .gates) r′ (trace b′ ms)))
     → Follows b r → Safe (b .gates) r → (z : Bool) → eqb (answer b (m .seven) (m .room)) 0 ≡ z
-    → Safe (b .gates)
-    (reckoned (b .gates) (cond z (reckon (b .gates) r (named (m .seven))) r)
-    (trace (cond z (withStamp (m .seven .day) (m .seven .time) (effect b (named (m .seven)))) b) ms))
+    → let b′ = cond z (withStamp (m .seven .day) (m .seven .time) (effect b (named (m .seven)))) b in
+    Holds (b .gates) (final b′ ms) (reckoned (b .gates) (cond z (reckon (b .gates) r (named (m .seven))) r) (trace b′ ms))
 list-step b r m ms ih F S true e =
     let c : Call = named (m .seven) in
     let k : Keeps b r c = keeps b r F S (m .seven) c (accepted b (m .seven) (m .room) (eqb-true (answer b (m .seven) (m .room)) 0 e)) in
     let b′ : Board = withStamp (m .seven .day) (m .seven .time) (effect b c) in
     let r′ : Reckoning = reckon (b .gates) r c in
-    subst (λ (gs : List Gate). Safe gs (reckoned gs r′ (trace b′ ms))) (gates-stay b c)
+    subst (λ (gs : List Gate). Holds gs (final b′ ms) (reckoned gs r′ (trace b′ ms))) (gates-stay b c)
     (ih b′ r′ (stamp-follows (m .seven .day) (m .seven .time) (effect b c) r′ (k .follows)) (subst (λ (gs : List Gate). Safe gs r′) (sym (gates-stay b c)) (k .safe)))
 list-step b r m ms ih F S false e = ih b r F S
 
-list-safe : (ms : List Made) (b : Board) (r : Reckoning) → Follows b r → Safe (b .gates) r → Holds b r ms
-unfolding reckoned trace after
-list-safe [] b r F S = S
-list-safe (m ∷ ms) b r F S = list-step b r m ms (list-safe ms) F S (eqb (answer b (m .seven) (m .room)) 0) refl
+list-holds : (ms : List Made) (b : Board) (r : Reckoning) → Follows b r → Safe (b .gates) r
+    → Holds (b .gates) (final b ms) (reckoned (b .gates) r (trace b ms))
+unfolding reckoned trace final after
+list-holds [] b r F S = record { safe = S; follows = F }
+list-holds (m ∷ ms) b r F S = list-step b r m ms (list-holds ms) F S (eqb (answer b (m .seven) (m .room)) 0) refl
 
 opened-follows : (portions : ℕ) (gates : List Gate) → portions ≤ 64 → Follows (opened portions gates) start
 unfolding opened
@@ -121,16 +122,25 @@ opened-follows portions gates h = record {
 }
 
 -- a freshly opened board of at most 64 portions and any gates
-pub opened-safe : (portions : ℕ) (gates : List Gate) → portions ≤ 64 → (ms : List Made)
-    → Safe gates (reckoned gates start (trace (opened portions gates) ms))
+pub opened-holds : (portions : ℕ) (gates : List Gate) → portions ≤ 64 → (ms : List Made)
+    → Holds gates (final (opened portions gates) ms) (reckoned gates start (trace (opened portions gates) ms))
 unfolding opened
-opened-safe portions gates h ms = list-safe ms (opened portions gates) start (opened-follows portions gates h) (safe-start gates)
+opened-holds portions gates h ms = list-holds ms (opened portions gates) start (opened-follows portions gates h) (safe-start gates)
+
+text-holds : (text : List ℕ) (ms : List Made)
+    → Holds (openBoard text .gates) (final (openBoard text) ms) (reckoned (openBoard text .gates) start (trace (openBoard text) ms))
+unfolding opened
+text-holds text ms =
+    let o = fresh text in
+    subst (λ (b : Board). Holds (b .gates) (final b ms) (reckoned (b .gates) start (trace b ms))) (sym (o .is-opened))
+    (opened-holds (o .portions) (o .gates) (o .few-portions) ms)
 
 -- THEOREM, demand 3: any plan text, a refused one too, and any list of calls; the answers are those of `trace`
 pub demand-3 : (text : List ℕ) (ms : List Made)
     → Safe (openBoard text .gates) (reckoned (openBoard text .gates) start (trace (openBoard text) ms))
-unfolding opened
-demand-3 text ms =
-    let o = fresh text in
-    subst (λ (b : Board). Safe (b .gates) (reckoned (b .gates) start (trace b ms))) (sym (o .is-opened))
-    (opened-safe (o .portions) (o .gates) (o .few-portions) ms)
+demand-3 text ms = text-holds text ms .safe
+
+-- and the board after the list follows what is reckoned: each live authority has the kind and the limits of its REQUEST
+pub list-follows : (text : List ℕ) (ms : List Made)
+    → Follows (final (openBoard text) ms) (reckoned (openBoard text .gates) start (trace (openBoard text) ms))
+list-follows text ms = text-holds text ms .follows

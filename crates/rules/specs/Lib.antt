@@ -5,6 +5,7 @@ pub mod Refusals
 pub mod Effects
 pub mod Plan
 pub mod Journal
+pub mod Sheet
 pub mod Step
 pub mod Reckoning
 pub mod Claim

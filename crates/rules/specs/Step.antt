@@ -1,5 +1,5 @@
 -- One call as a whole, a list of calls, and the whole results of the functions `open` and `call`. Assumes nothing.
-use Prim.Native.Nat.{ℕ, suc, _≤_}
+use Prim.Native.Nat.{ℕ, suc, _*_, _≤_, _<_}
 use mathlib.Core.Path.{_≡_}
 use mathlib.Core.Bool.{cond, _&&_}
 use mathlib.Core.List.{List, [], _∷_, List·Memᴰ}
@@ -69,10 +69,16 @@ pub record Bounds (r : Register) : Type 0 where
   pub live : r .live ≤ 32
   pub running : r .running ≤ 32
 
--- what holds of every register that opening or a call returned: its counts are within its arrays, and what they hold is held once
+-- "Day is 0 to 9999": a term starts in a minute of those 10,000 days of 1440 minutes
+abbrev pub Starts : Board → Type 0
+Starts b = (a : Authority) → List·Memᴰ a (b .authorities) → a .start < 10000 * 1440
+
+-- what holds of every register that opening or a call returned: its counts are within its arrays, what they hold is held once, and terms
+-- start within the days
 pub record Kept (r : Register) : Type 0 where
   pub bounds : Bounds r
   pub once : Once (boardOf r)
+  pub starts : Starts (boardOf r)
 
 -- the whole result of `open` for a plan's text
 pub record OpenPost (text : List ℕ) (r : Opened) : Type 0 where

@@ -40,6 +40,9 @@ loop-holds c = (omega arith, omega arith, omega arith, size-start _ _ _)
 shared-slice-read-w : tie.Need-shared-slice-read-w Inv-loop μ-loop
 shared-slice-read-w c = omega arith
 
+cast-w : tie.Need-cast-w Inv-loop μ-loop
+cast-w c = omega (arith, c .shared-slice-known3 .given (c .before .before .loop .k))
+
 mul-is-fitting : tie.Need-mul-is-fitting Inv-loop μ-loop
 mul-is-fitting c = search needs
 
@@ -56,9 +59,6 @@ returns-3 c =
     sym (h .loop .inv .3
     ∙ size-unfit (h .loop .k) (now (a .widths)) (now (a .numbers)) (omega arith) (omega arith) _ _
     (sym (c .before .is-fitting .ensures) ∙ not-true _ (c .if3 .taken)))
-
-cast-width : tie.Need-cast-width Inv-loop μ-loop
-cast-width c = omega (arith, c .before .before .before .shared-slice-known3 .given (c .before .before .before .before .before .loop .k))
 
 sub-if4 : tie.Need-sub-if4 Inv-loop μ-loop
 sub-if4 c = omega arith
@@ -107,11 +107,11 @@ line-size-spec =
     returns-2
     loop-holds
     shared-slice-read-w
+    cast-w
     mul-is-fitting
     shared-slice-read-is-fitting
     is-fitting-requires
     returns-3
-    cast-width
     sub-if4
     returns-4
     add-size

@@ -3,7 +3,7 @@ use Prim.Native.Nat.{ℕ}
 use mathlib.Core.Path.{refl}
 use borrow.Author.Needs.{needs}
 use Rattle.columns.specs.Column.{column}
-use Rattle.columns.proofs.Filling.{part-length, part-back}
+use Rattle.columns.proofs.Writing.{part-length, part-back}
 use Rattle.columns.proofs.write.put.Statement.{statement}
 use Rattle.columns.proofs.write.put.Tie as tie
 

@@ -7,7 +7,8 @@ use denote.Ref.{now}
 use borrow.Author.Needs.{needs}
 use lib.ListN.{length}
 use Rattle.columns.specs.Line.{line}
-use Rattle.columns.proofs.Filling.{Sized, size-zero, size-some, written, part-length, part-back}
+use Rattle.columns.proofs.Writing.{part-length, part-back}
+use Rattle.columns.proofs.Filling.{Sized, size-zero, size-some, written}
 use Rattle.columns.proofs.write.write_line.Statement.{statement}
 use Rattle.columns.proofs.write.write_line.Tie as tie
 

@@ -7,10 +7,10 @@ use Rattle.panel.proofs.scenario.put_lines.Statement.{statement}
 use Rattle.panel.proofs.scenario.put_lines.Tie as tie
 
 abbrev Inv-loop : tie.InvT-loop
-Inv-loop calls register₀ at₀ register at = Kept register × (at ≤ length calls)
+Inv-loop calls printing register₀ at₀ register at = Kept register × (at ≤ length calls)
 
 abbrev μ-loop : tie.MeasureT-loop
-μ-loop calls register₀ at₀ register at = length calls - at
+μ-loop calls printing register₀ at₀ register at = length calls - at
 
 loop-holds : tie.Need-loop-holds Inv-loop μ-loop
 loop-holds c = search needs

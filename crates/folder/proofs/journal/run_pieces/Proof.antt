@@ -1,23 +1,23 @@
--- `folder::journal::print_pieces` meets its contract. The invariant: the register is kept, and the buffers keep their lengths. Assumes nothing.
+-- `folder::journal::run_pieces` meets its contract. The invariant: the register is kept, and the buffers keep their lengths. Assumes nothing.
 use Prim.Native.Nat.{_-_}
 use mathlib.Core.Path.{_≡_}
 use lib.ListN.{length}
 use borrow.Author.Needs.{needs}
 use Rattle.rules.specs.Step.{Kept}
-use Rattle.folder.proofs.journal.print_pieces.Statement.{statement}
-use Rattle.folder.proofs.journal.print_pieces.Tie as tie
+use Rattle.folder.proofs.journal.run_pieces.Statement.{statement}
+use Rattle.folder.proofs.journal.run_pieces.Tie as tie
 
 abbrev Inv-loop : tie.InvT-loop
-Inv-loop fd text₀ out₀ register₀ piece₀ text out register piece = Kept register × (length text ≡ 352256) × (length out ≡ 450560)
+Inv-loop printing fd text₀ out₀ register₀ piece₀ text out register piece = Kept register × (length text ≡ 352256) × (length out ≡ 450560)
 
 abbrev μ-loop : tie.MeasureT-loop
-μ-loop fd text₀ out₀ register₀ piece₀ text out register piece = 1125899906842624 - piece
+μ-loop printing fd text₀ out₀ register₀ piece₀ text out register piece = 1125899906842624 - piece
 
 loop-holds : tie.Need-loop-holds Inv-loop μ-loop
 loop-holds c = search needs
 
-print-piece-requires : tie.Need-print-piece-requires Inv-loop μ-loop
-print-piece-requires c κs = search needs
+run-piece-requires : tie.Need-run-piece-requires Inv-loop μ-loop
+run-piece-requires c κs = search needs
 
 same-length : tie.Need-same-length Inv-loop μ-loop
 same-length c = search needs
@@ -46,14 +46,14 @@ same-length-4 c = search needs
 returns-2 : tie.Need-returns-2 Inv-loop μ-loop
 returns-2 c = search needs
 
-pub print-pieces-spec : {M : Type 1} → statement M
-print-pieces-spec =
+pub run-pieces-spec : {M : Type 1} → statement M
+run-pieces-spec =
     tie.close
     (tie.spec
     Inv-loop
     μ-loop
     loop-holds
-    print-piece-requires
+    run-piece-requires
     same-length
     same-length-2
     returns

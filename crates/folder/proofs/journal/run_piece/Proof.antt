@@ -1,11 +1,11 @@
--- `folder::journal::print_piece` meets its contract: a run makes at most 8192 calls, so their lines are in the buffer and their count is small.
+-- `folder::journal::run_piece` meets its contract: a run makes at most 8192 calls, so their lines fit the buffer and their count is small. Assumes nothing.
 use native.Mathlib.Omega.{arith}
 use mathlib.Core.Path.{sym}
 use lib.Seq.{length-take-le}
 use Rattle.calls.proofs.Counting.{lines-most}
 use borrow.Author.Needs.{needs}
-use Rattle.folder.proofs.journal.print_piece.Statement.{statement}
-use Rattle.folder.proofs.journal.print_piece.Tie as tie
+use Rattle.folder.proofs.journal.run_piece.Statement.{statement}
+use Rattle.folder.proofs.journal.run_piece.Tie as tie
 
 fill-requires : tie.Need-fill-requires
 fill-requires c κs = search needs
@@ -23,10 +23,10 @@ mul-m : tie.Need-mul-m
 mul-m c = omega (arith, lines-most (c .before .before .before .run .ensures))
 
 slice-reshare-prefix-print : tie.Need-slice-reshare-prefix-print
-slice-reshare-prefix-print c = omega (arith, lines-most (c .before .before .before .run .ensures))
+slice-reshare-prefix-print c = omega (arith, lines-most (c .before .before .before .before .run .ensures))
 
 slice-aggregate-print : tie.Need-slice-aggregate-print
-slice-aggregate-print c = sym (length-take-le _ _ (omega (arith, lines-most (c .before .before .before .before .run .ensures))))
+slice-aggregate-print c = sym (length-take-le _ _ (omega (arith, lines-most (c .before .before .before .before .before .run .ensures))))
 
 print-requires : tie.Need-print-requires
 print-requires c κs = search needs
@@ -55,17 +55,17 @@ same-length-4 c = search needs
 returns-2 : tie.Need-returns-2
 returns-2 c = search needs
 
-mul-if3 : tie.Need-mul-if3
-mul-if3 c = omega (arith, lines-most (c .before .before .before .before .before .before .before .run .ensures))
+mul-if4 : tie.Need-mul-if4
+mul-if4 c = omega (arith, lines-most (c .before .before .before .before .before .run .ensures))
 
 mul-say-malformed : tie.Need-mul-say-malformed
 mul-say-malformed c = search needs
 
 add-say-malformed : tie.Need-add-say-malformed
-add-say-malformed c = omega (arith, lines-most (c .before .before .before .before .before .before .before .before .run .ensures))
+add-say-malformed c = omega (arith, lines-most (c .before .before .before .before .before .before .run .ensures))
 
 add-say-malformed-2 : tie.Need-add-say-malformed-2
-add-say-malformed-2 c = omega (arith, lines-most (c .before .before .before .before .before .before .before .before .run .ensures))
+add-say-malformed-2 c = omega (arith, lines-most (c .before .before .before .before .before .before .run .ensures))
 
 say-malformed-requires : tie.Need-say-malformed-requires
 say-malformed-requires c κs = search needs
@@ -88,8 +88,8 @@ same-length-8 c = search needs
 returns-4 : tie.Need-returns-4
 returns-4 c = search needs
 
-pub print-piece-spec : {M : Type 1} → statement M
-print-piece-spec =
+pub run-piece-spec : {M : Type 1} → statement M
+run-piece-spec =
     tie.close
     (tie.spec
     fill-requires
@@ -108,7 +108,7 @@ print-piece-spec =
     same-length-3
     same-length-4
     returns-2
-    mul-if3
+    mul-if4
     mul-say-malformed
     add-say-malformed
     add-say-malformed-2

@@ -1,0 +1,84 @@
+// The page: a line for each live authority in the register's order, and the last line, in a lent buffer.
+ghost use Prim.Native.Nat.{_*_, _^_, _≤_, _<_};
+ghost use mathlib.Core.Path.{_≡_};
+ghost use mathlib.Core.Bool.{true};
+ghost use mathlib.Core.List.{_++_, map};
+ghost use lib.ListN.{length, drop};
+ghost use Rattle.lists.specs.Prefix.{prefix};
+ghost use Rattle.columns.specs.Cells.{cellLine, cellsFit};
+ghost use Rattle.rules.specs.Call.{minuteOf};
+ghost use Rattle.rules.specs.Step.{Kept};
+ghost use Rattle.rules.specs.Sheet.{authorityCells, sheetWidths, pageOf, SheetPost};
+use crate::cells::authority_cells;
+use crate::cells::total_cells;
+use columns::Cell;
+use rules::Register;
+
+// The buffer is shorter than 33 lines of 73 bytes.
+const SHORT_PAGE: u16 = 23;
+
+// 0 or the refusal, and how many lines were written.
+pub struct Written {
+    pub answer: u16,
+    pub lines: usize,
+}
+
+// Fills the whole slice with a line of cells that fit.
+fn fill_line(line: &mut [u8], cells: [Cell; 8])
+    requires { ⌜ (length (now line) ≡ 73) × (cellsFit sheetWidths cells ≡ true) ⌝ }
+    ensures { λ _. ⌜ now (line .exit) ≡ cellLine sheetWidths cells ⌝ }
+{
+    let mut k: usize = 0;
+    while k < 8 {
+        let at = 9 * k;
+        columns::fill_cell(&mut line[at..at + 9], cells[k]);
+        k += 1;
+    }
+    line[72] = 10;
+}
+
+// The minute of the last stamp: nine columns take it, behind a minus sign too.
+fn minute_of(day: u16, time: u16) -> u32
+    ensures { λ r. ⌜ (r ≡ minuteOf day time) × (r < 10 ^ 8) ⌝ }
+{
+    decode::minute_of(day, time)
+}
+
+// Writes the lines of the live authorities to the front of the buffer; later bytes stay.
+fn write_authorities(register: Register, page: &mut [u8])
+    requires { ⌜ Kept register × (2409 ≤ length (now page)) ⌝ }
+    ensures { λ _. ⌜ now (page .exit) ≡ pageOf (map (authorityCells (minuteOf (register .day) (register .time))) (prefix (register .live) (register .authorities))) ++ drop (73 * register .live) (now (page .entry)) ⌝ }
+{
+    let now = minute_of(register.day, register.time);
+    let mut i: usize = 0;
+    while i < register.live {
+        let at = 73 * i;
+        fill_line(
+            &mut page[at..at + 73],
+            authority_cells(register.authorities[i], now),
+        );
+        i += 1;
+    }
+}
+
+// Writes the sheet of a register to the front of the buffer: 0 and the number of lines, and later bytes stay. A buffer under 33 lines of 73 bytes
+// gives 23 and stays as it was.
+pub fn write_sheet(register: Register, page: &mut [u8]) -> Written
+    requires { ⌜ Kept register ⌝ }
+    ensures { λ r. ⌜ SheetPost register (now (page .entry)) (r .answer) (r .lines) (now (page .exit)) ⌝ }
+{
+    if page.len() < 2409 {
+        return Written {
+            answer: SHORT_PAGE,
+            lines: 0,
+        };
+    }
+    write_authorities(register, page);
+    let live = register.live;
+    let at = 73 * live;
+    fill_line(&mut page[at..at + 73], total_cells(register));
+    Written {
+        answer: 0,
+        lines: live + 1,
+    }
+}
