@@ -1,33 +1,28 @@
--- The shift sheet (02, order 2): each line has 73 bytes on every board that calls return, first and last are those of the REQUEST, and a page
--- worked out, byte for byte. Assumes nothing.
-use Prim.Native.Nat.{ℕ, suc, _+_, _-_, _*_, _^_, _≤_, _<_}
+-- The shift sheet (02, order 2): first and last are those of the REQUEST after every list of calls, and a page worked out, byte for byte.
+-- Assumes nothing.
+use Prim.Native.Nat.{ℕ}
 use native.Mathlib.Omega.{arith}
-use mathlib.Core.Path.{_≡_, refl, sym, ap, _∙_}
+use mathlib.Core.Path.{_≡_, refl, sym}
 use mathlib.Core.Logic.{⊎-elim}
-use mathlib.Core.Bool.{Bool, true, false, cond, _&&_}
-use mathlib.Core.List.{List, [], _∷_, _++_, map}
-use lib.Dec.{eqb, ltb}
-use lib.ListN.{length, replicate, length-append}
-use borrow.Author.Tests.{ltb-true, ltb-false}
+use mathlib.Core.Bool.{true, false}
+use mathlib.Core.List.{List, [], _∷_}
 use Rattle.lists.specs.Search.{any, first, last, keep, below}
-use Rattle.lists.proofs.Tests.{and-i, truth}
+use Rattle.lists.proofs.Tests.{truth}
 use Rattle.lists.proofs.Search.{Member}
-use Rattle.columns.specs.declared.cell.Cell.{Cell}
-use Rattle.columns.specs.declared.cell.Cell.the-variants.{Empty, Number, Minus}
 use Rattle.columns.specs.Text.{bytes}
 use Rattle.columns.specs.Column.{digitsIn, digits}
-use Rattle.columns.specs.Cells.{difference, marks, cell, cellFits, cellLine, cellsFit}
-use Rattle.columns.proofs.Writing.{fits-below, total}
-use Rattle.columns.proofs.Cells.{number-fits, minus-fits, empty-fits, cell-line-length}
+use Rattle.columns.specs.Cells.{difference, marks, cell, cellLine}
 use Rattle.portions.specs.Sets.{has, setOf, run, size, least, greatest}
 use Rattle.portions.proofs.Ends.{least-is, greatest-is}
+use Rattle.rules.specs.declared.Kind.the-variants.{Lpa, Toa, Twa}
 use Rattle.rules.specs.declared.Authority.{Authority}
-use Rattle.rules.specs.Board.{Board, authorityNo, hasTerm}
+use Rattle.rules.specs.Board.{Board, authorityNo}
+use Rattle.rules.specs.Call.{authorityOf, minuteOf}
 use Rattle.rules.specs.Plan.{openBoard}
 use Rattle.rules.specs.Step.{Made, trace, final}
 use Rattle.rules.specs.Reckoning.{Reckoned, start, reckoned}
-use Rattle.rules.specs.Sheet.{minutesInHand, authorityCells, totalCells, sheetWidths, sheetRows, pageOf, sheet}
-use Rattle.rules.proofs.Follows.{Held, Follows}
+use Rattle.rules.specs.Sheet.{minutesInHand, authorityCells, heldPortions, totalCells, sheetRows, pageOf, sheet}
+use Rattle.rules.proofs.Follows.{Held}
 use Rattle.rules.proofs.Safety.{list-follows}
 
 -- ---- first and last are those of the REQUEST
@@ -50,3 +45,73 @@ first-last text ms a m =
     let h = list-follows text ms .held a m in
     let e = held-ends _ a h in
     (sym (h .kind), e .0, e .1)
+
+-- ---- a page
+
+-- on day 12 at 0555: an LPA over 2 to 3 whose term of 420 minutes from 2200 the day before is over, its site on; a TOA over 0 to 1, and a TWA over 1 that
+-- it has agreed, its site clear; an LPA over 63, pending, with no term; gates 0, 5 and 63 blocked
+abbrev lastNight : Board
+lastNight = record {
+  portions = 64;
+  gates = [];
+  day = 12;
+  time = 555;
+  last = 9999;
+  blocks = 9223372036854775841;
+  authorities =
+      record {
+        number = authorityOf 1;
+        kind = Lpa;
+        limits = run 2 3;
+        officer = 42;
+        «in_force» = true;
+        «workers_on» = true;
+        agreed = authorityOf 0;
+        start = minuteOf 11 2200;
+        length = 420;
+      }
+      ∷ record {
+        number = authorityOf 3;
+        kind = Toa;
+        limits = run 0 1;
+        officer = 63;
+        «in_force» = true;
+        «workers_on» = true;
+        agreed = authorityOf 0;
+        start = 0;
+        length = 0;
+      }
+      ∷ record {
+        number = authorityOf 4;
+        kind = Twa;
+        limits = run 1 1;
+        officer = 7;
+        «in_force» = true;
+        «workers_on» = false;
+        agreed = authorityOf 3;
+        start = 0;
+        length = 0;
+      }
+      ∷ record {
+        number = authorityOf 9999;
+        kind = Lpa;
+        limits = run 63 63;
+        officer = 999;
+        «in_force» = false;
+        «workers_on» = false;
+        agreed = authorityOf 0;
+        start = 0;
+        length = 0;
+      }
+      ∷ [];
+  trains = [];
+}
+
+unfoldable pub lastNight-bytes : List ℕ
+lastNight-bytes =
+    bytes
+    "        1        1        2        3       42        2        1      -55\n        3        2        0        1       63        2        1         \n        4        3        1        1        7        2        2         \n     9999        1       63       63      999        1        2         \n        4        3                                                      \n"
+
+pub lastNight-sheet : sheet lastNight ≡ lastNight-bytes
+unfolding sheet pageOf sheetRows authorityCells minutesInHand difference totalCells heldPortions cellLine cell marks digits digitsIn least greatest size any first last keep below has setOf run minuteOf lastNight-bytes bytes
+lastNight-sheet = refl
