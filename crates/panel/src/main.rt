@@ -1,5 +1,5 @@
-// The panel: scenario after scenario, each a heading and the journal of its calls. CASES.md says what each shows and the answers that
-// documents 01 and 02 ask, worked out by hand. The list of scenarios, the plans and the calls stand in data/.
+// The panel: scenario after scenario, each a heading and the journal of its calls, or the shift sheet after them. CASES.md says what each shows and
+// the answers that documents 01 and 02 ask, worked out by hand. The lists of scenarios and of sheets, the plans and the calls stand in data/.
 mod edges;
 mod list;
 mod scenario;
