@@ -1,20 +1,19 @@
 -- Laws of cells, for every number and width: how long a cell is, which cells fit, that each is read back, and what a difference is; then the steps
 -- of the code that fills one. Assumes nothing.
 use mathlib.Core.Path.{_≡_, refl, sym, ap, _∙_}
-use mathlib.Core.Logic.{inl, inr}
-use mathlib.Core.Bool.{Bool, true, false, cond, _||_, false≢true}
+use mathlib.Core.Bool.{Bool, true, false, cond, false≢true}
 use mathlib.Core.List.{List, [], _∷_, _++_, append-assoc, append-nil}
 use Prim.Native.Nat.{ℕ, zero, suc, _+_, _-_, _/_, _%_, _≤_, _<_}
 use native.Mathlib.Omega.{arith}
 use native.Mathlib.Nat.{sub-zero}
 use native.Mathlib.Numerals.{add-one}
 use borrow.Author.Tests.{leb-true, le-leb, ltb-true, ltb-false, ne-eqb, lt-leb}
-use lib.Dec.{ltb, leb, leb·suc-suc}
+use lib.Dec.{ltb, leb·suc-suc}
 use lib.ListN.{length, take, drop, set, getD, replicate, length-append, length-replicate, drop-of-length-le}
 use lib.Seq.{drop-cons, drop-at, take-at, set-split}
 use Rattle.lists.specs.Search.{any}
 use Rattle.lists.proofs.Search.{any-append}
-use Rattle.lists.proofs.Tests.{truth, and-l, and-r}
+use Rattle.lists.proofs.Tests.{and-l, and-r}
 use Rattle.columns.specs.declared.cell.Cell.{Cell}
 use Rattle.columns.specs.declared.cell.Cell.the-variants.{Empty, Number, Minus}
 use Rattle.columns.specs.Column.{digits, column, fits}

@@ -1,6 +1,6 @@
 -- The steps of the code that writes: its table, a column filled from its last byte on, a line counted and then filled number by number.
 -- Only the proofs of `src/write.rt` cite these. Assumes nothing.
-use mathlib.Core.Path.{_≡_, sym, ap, ap₂, _∙_}
+use mathlib.Core.Path.{_≡_, sym, _∙_}
 use mathlib.Core.Logic.{inl, inr}
 use mathlib.Core.Bool.{true, false, cond, _&&_}
 use mathlib.Core.List.{List, [], _∷_, _++_, append-assoc}
@@ -10,8 +10,8 @@ use native.Mathlib.Nat.{zero-add, pow-suc, pow-succ'}
 use native.Mathlib.Numerals.{add-one}
 use borrow.Author.Tests.{lt-ltb, le-ltb, ltb-true, leb-true, le-leb, lt-leb}
 use lib.Dec.{ltb, leb}
-use lib.ListN.{length, take, drop, set, getD, length-append, drop-of-length-le}
-use lib.Seq.{drop-cons, drop-at, take-at, length-take-le, set-split}
+use lib.ListN.{length, take, drop, set, getD, drop-of-length-le}
+use lib.Seq.{drop-cons, drop-at, length-take-le, set-split}
 use Rattle.lists.proofs.Tests.{truth, same-test, and-l, and-r}
 use Rattle.columns.specs.Column.{digits, column, fits}
 use Rattle.columns.specs.Line.{line, allFit, writable, withLine, Written}

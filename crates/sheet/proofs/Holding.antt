@@ -6,7 +6,7 @@ use Prim.Native.Nat.{ℕ}
 use lib.Pow.{pow-pos}
 use Rattle.lists.specs.Search.{any}
 use Rattle.lists.proofs.Search.{any-append}
-use Rattle.portions.specs.Sets.{has, setOf, inEither, union}
+use Rattle.portions.specs.Sets.{setOf, inEither, union}
 use Rattle.portions.proofs.Bits.{has-none}
 use Rattle.portions.proofs.Laws.{is-setOf, setOf-agree, in-setOf}
 use Rattle.rules.specs.declared.Authority.{Authority}

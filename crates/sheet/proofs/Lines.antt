@@ -1,10 +1,10 @@
 -- A page made line by line in a lent buffer. Assumes nothing.
 use mathlib.Core.Path.{_≡_, refl, sym, ap, ap₂, _∙_}
 use mathlib.Core.Bool.{Bool, true}
-use mathlib.Core.List.{List, [], _∷_, _++_, append-assoc, append-nil, map}
-use Prim.Native.Nat.{ℕ, suc, _+_, _-_, _*_, _≤_, _<_}
+use mathlib.Core.List.{List, [], _∷_, _++_, append-assoc, append-nil}
+use Prim.Native.Nat.{ℕ, _+_, _-_, _*_, _≤_, _<_}
 use native.Mathlib.Omega.{arith}
-use lib.ListN.{length, take, drop, set, getD, replicate, length-append, length-drop, getD-replicate, drop-of-length-le}
+use lib.ListN.{length, take, drop, set, getD, length-append, length-drop, getD-replicate, drop-of-length-le}
 use lib.Seq.{length-take-le, take-at, drop-at, drop-drop, set-split}
 use borrow.Rule.Slice.PartMut.{midOf, putMid, post-is}
 use Rattle.columns.specs.declared.cell.Cell.{Cell}

@@ -2,7 +2,7 @@
 use mathlib.Core.Path.{_≡_, sym, ap, ap₂, subst, _∙_}
 use mathlib.Core.Bool.{Bool, true, false, cond}
 use mathlib.Core.List.{List, [], _∷_, _++_, map, map-append}
-use Prim.Native.Nat.{ℕ, suc, _+_, _-_, _*_, _^_, _≤_, _<_}
+use Prim.Native.Nat.{ℕ, _+_, _-_, _*_, _^_, _≤_, _<_}
 use native.Mathlib.Omega.{arith}
 use borrow.Author.Tests.{lt-ltb, le-ltb}
 use lib.ListN.{length, drop, getD, length-append, length-drop, length-map}
@@ -11,7 +11,6 @@ use Rattle.lists.specs.Prefix.{prefix}
 use Rattle.lists.proofs.Prefix.{length-prefix, prefix-none, prefix-next, prefix-member}
 use Rattle.columns.specs.declared.cell.Cell.{Cell}
 use Rattle.columns.specs.Cells.{cellLine, cellsFit}
-use Rattle.rules.specs.declared.Authority.{Authority}
 use Rattle.rules.specs.declared.Register.{Register}
 use Rattle.rules.specs.Board.{boardOf, noAuthority}
 use Rattle.rules.specs.Call.{minuteOf}

@@ -1,6 +1,6 @@
 -- The sheet of a board's run, over the functions themselves: of a register that `open` or `call` returned, after any list of calls. Assumes nothing.
 use Prim.Native.Nat.{ℕ, _≤_, _<_}
-use mathlib.Core.Path.{_≡_, sym, ap, subst, _∙_}
+use mathlib.Core.Path.{_≡_, sym, subst, _∙_}
 use mathlib.Core.List.{List, _++_}
 use borrow.Author.Tests.{lt-ltb, le-ltb}
 use contract.Lifetimes.{Lfts}

@@ -1,7 +1,6 @@
 -- `columns::cell::is_cell_fitting` meets its contract. Assumes nothing.
 use mathlib.Core.Path.{sym, _∙_}
 use borrow.Author.Needs.{needs}
-use Rattle.columns.specs.Cells.{cellFits}
 use Rattle.columns.proofs.Cells.{empty-fits, number-fits, minus-none, sign-fits}
 use Rattle.columns.proofs.cell.is_cell_fitting.Statement.{statement}
 use Rattle.columns.proofs.cell.is_cell_fitting.Tie as tie
