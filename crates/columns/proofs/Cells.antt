@@ -1,8 +1,8 @@
 -- Laws of cells, for every number and width: how long a cell is, which cells fit, that each is read back, and what a difference is; then the steps
 -- of the code that fills one. Assumes nothing.
-use mathlib.Core.Path.{_≡_, refl, sym, ap, _∙_}
+use mathlib.Core.Path.{_≡_, refl, sym, ap, ap₂, _∙_}
 use mathlib.Core.Bool.{Bool, true, false, cond, false≢true}
-use mathlib.Core.List.{List, [], _∷_, _++_, append-assoc, append-nil}
+use mathlib.Core.List.{List, [], _∷_, _++_, map, append-assoc, append-nil}
 use Prim.Native.Nat.{ℕ, zero, suc, _+_, _-_, _/_, _%_, _≤_, _<_}
 use native.Mathlib.Omega.{arith}
 use native.Mathlib.Nat.{sub-zero}
@@ -17,6 +17,7 @@ use Rattle.lists.proofs.Tests.{and-l, and-r}
 use Rattle.columns.specs.declared.cell.Cell.{Cell}
 use Rattle.columns.specs.declared.cell.Cell.the-variants.{Empty, Number, Minus}
 use Rattle.columns.specs.Column.{digits, column, fits}
+use Rattle.columns.specs.Line.{line}
 use Rattle.columns.specs.Reading.{valueFrom}
 use Rattle.columns.specs.Steps.{blanks}
 use Rattle.columns.specs.Cells.{difference, marks, cell, cellFits, Filled, cellLine, cellsFit, isPrinted, isMinus, cellIn}
@@ -74,6 +75,13 @@ cell-line-length (w ∷ ws) (c ∷ cs) e =
     let a : cellFits w c ≡ true = and-l (cellFits w c) (cellsFit ws cs) e in
     let b : cellsFit ws cs ≡ true = and-r (cellFits w c) (cellsFit ws cs) e in
     rw (length-append (cell w c) (cellLine ws cs), cell-length w c a, cell-line-length ws cs b) (omega arith)
+
+-- a line of numbers is the line of their cells
+pub line-cells : (ws ns : List ℕ) → line ws ns ≡ cellLine ws (map Number ns)
+unfolding line cellLine
+line-cells [] ns = refl
+line-cells (w ∷ ws) [] = refl
+line-cells (w ∷ ws) (n ∷ ns) = ap₂ (λ (x y : List ℕ). x ++ y) (sym (number-cell w n)) (line-cells ws ns)
 
 -- ---- a difference
 
