@@ -5,9 +5,10 @@ use mathlib.Core.List.{List}
 use lib.ListN.{length, take, drop}
 use Rattle.rules.specs.declared.Seven.{Seven}
 use Rattle.rules.specs.declared.Register.{Register}
-use Rattle.calls.specs.declared.text.Line.{Line}
-use Rattle.calls.specs.declared.text.Line.the-variants.{Call, Malformed}
-use Rattle.calls.specs.Lines.{lineIn, unlessMalformed, callsIn}
+use Rattle.lines.specs.declared.Line.{Line}
+use Rattle.lines.specs.declared.Line.the-variants.{Call, Malformed}
+use Rattle.lines.specs.Line.{lineIn}
+use Rattle.calls.specs.Lines.{unlessMalformed, callsIn}
 use Rattle.calls.specs.Run.{runOf, RunPost}
 
 one-more : (line : Line) (calls : List Seven) (n : ℕ) → length calls ≤ n → length (unlessMalformed line calls) ≤ suc n

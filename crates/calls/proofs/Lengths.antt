@@ -17,11 +17,12 @@ use Rattle.rules.specs.Step.{Once, after, allotted}
 use Rattle.rules.proofs.Answers.{cond-most, answer-most}
 use Rattle.rules.proofs.Once.{once-after}
 use Rattle.rules.proofs.Lines.{Small, line-55}
-use Rattle.calls.specs.declared.text.Line.{Line}
-use Rattle.calls.specs.declared.text.Line.the-variants as Lines
-use Rattle.calls.specs.Lines.{lineIn, unlessMalformed, callsIn}
+use Rattle.lines.specs.declared.Line.{Line}
+use Rattle.lines.specs.declared.Line.the-variants as Lines
+use Rattle.lines.specs.Line.{lineIn}
+use Rattle.calls.specs.Lines.{unlessMalformed, callsIn}
 use Rattle.calls.specs.Run.{journal, runOf}
-use Rattle.calls.proofs.Texts.{numbersOf, call-line}
+use Rattle.lines.proofs.Texts.{numbersOf, call-line}
 use Rattle.calls.proofs.Parts.{lineOn}
 
 -- ---- a journal line

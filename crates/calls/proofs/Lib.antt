@@ -1,8 +1,6 @@
 -- The laws of a text of calls, and, not public, those that only the proofs of this crate's functions cite.
-pub mod Texts
 pub mod Parts
 pub mod Lengths
 pub mod Counting
-mod Columns
-mod Rows
+mod Journals
 mod Running

@@ -17,9 +17,10 @@ use Rattle.rules.specs.Step.{Made, Answered, after, allotted, trace, final}
 use Rattle.rules.specs.Reckoning.{start, reckoned}
 use Rattle.rules.specs.Claim.{Safe}
 use Rattle.rules.proofs.Safety.{demand-3}
-use Rattle.calls.specs.declared.text.Line.{Line}
-use Rattle.calls.specs.declared.text.Line.the-variants.{Call, Malformed}
-use Rattle.calls.specs.Lines.{lineIn, unlessMalformed, callsIn}
+use Rattle.lines.specs.declared.Line.{Line}
+use Rattle.lines.specs.declared.Line.the-variants.{Call, Malformed}
+use Rattle.lines.specs.Line.{lineIn}
+use Rattle.calls.specs.Lines.{unlessMalformed, callsIn}
 use Rattle.calls.specs.Run.{made, journal, Run, runOf, _thenRun_}
 
 -- ---- a run call by call

@@ -12,11 +12,11 @@ use Rattle.rules.specs.declared.Seven.{Seven}
 use Rattle.rules.specs.declared.Register.{Register}
 use Rattle.rules.specs.Board.{Board, boardOf}
 use Rattle.rules.specs.Step.{Kept, after}
-use Rattle.calls.specs.declared.text.Line.{Line}
-use Rattle.calls.specs.declared.text.Line.the-variants.{Call, Malformed}
-use Rattle.calls.specs.Lines.{lineIn}
+use Rattle.lines.specs.declared.Line.{Line}
+use Rattle.lines.specs.declared.Line.the-variants.{Call, Malformed}
+use Rattle.lines.specs.Line.{lineIn}
 use Rattle.calls.specs.Run.{runOf, _thenRun_, RunPost}
-use Rattle.calls.proofs.Texts.{call-length}
+use Rattle.lines.proofs.Texts.{call-length}
 use Rattle.calls.proofs.Parts.{going, stoppedAt, lineOn, run-none, run-malformed, run-call}
 
 -- ---- the line from a place on

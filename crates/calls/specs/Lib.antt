@@ -1,4 +1,3 @@
 -- The definitions that the contracts of this crate cite, in reading order.
 pub mod Lines
 pub mod Run
-pub mod Steps

@@ -2,9 +2,9 @@
 ghost use Rattle.rules.specs.Step.{Kept};
 ghost use Rattle.places.specs.Places.{registerIn};
 ghost use Rattle.calls.specs.Run.{RunPost};
-use crate::text::Line;
-use crate::text::read_line;
-use crate::text::write_journal;
+use crate::journal::write_journal;
+use lines::Line;
+use lines::read_line;
 use places::Head;
 use rules::Register;
 

@@ -1,12 +1,12 @@
 // One scenario: a board opened from a plan's file, the calls of a second file put to it one by one, and their journal printed, or the sheet after
 // them.
 ghost use Rattle.rules.specs.Step.{Kept};
-use calls::Line;
-use calls::read_line;
 use folder::print;
 use folder::print_number;
 use folder::print_page;
 use folder::read_file;
+use lines::Line;
+use lines::read_line;
 use rules::Opened;
 use rules::Register;
 use rules::Seven;

@@ -12,9 +12,9 @@ use Rattle.rules.specs.declared.Register.{Register}
 use Rattle.rules.specs.Board.{Board, boardOf}
 use Rattle.rules.specs.Step.{Kept}
 use Rattle.places.specs.Places.{registerIn}
-use Rattle.calls.specs.declared.text.Line.{Line}
-use Rattle.calls.specs.declared.text.Line.the-variants.{Malformed}
-use Rattle.calls.specs.Lines.{lineIn}
+use Rattle.lines.specs.declared.Line.{Line}
+use Rattle.lines.specs.declared.Line.the-variants.{Malformed}
+use Rattle.lines.specs.Line.{lineIn}
 use Rattle.calls.specs.Run.{Run, runOf, RunPost}
 use Rattle.calls.proofs.Running.{SoFar, so-far-none, so-far-call, so-far-done, so-far-full, so-far-malformed, line-part, short-malformed}
 use Rattle.calls.proofs.piece.run_lines.Statement.{statement}

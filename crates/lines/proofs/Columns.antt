@@ -18,7 +18,7 @@ use Rattle.columns.specs.Reading.{readColumn}
 use Rattle.columns.specs.Steps.{mark}
 use Rattle.columns.proofs.Writing.{fits-below, front, column-front}
 use Rattle.columns.proofs.Reading.{read-column, column-read, read-most}
-use Rattle.calls.specs.Steps.{isMark}
+use Rattle.lines.specs.Steps.{isMark}
 
 -- the bytes of a number below 100000 in six columns
 column-six : (n : ℕ) → n < 100000

@@ -1,9 +1,9 @@
 -- `calls::text::read_six` meets its contract, by the laws of six bytes. Assumes nothing.
 use borrow.Author.Needs.{needs}
-use Rattle.calls.specs.Steps.{readOf}
-use Rattle.calls.proofs.Columns.{loose, passes, read-passed, part-six}
-use Rattle.calls.proofs.text.read_six.Statement.{statement}
-use Rattle.calls.proofs.text.read_six.Tie as tie
+use Rattle.lines.specs.Steps.{readOf}
+use Rattle.lines.proofs.Columns.{loose, passes, read-passed, part-six}
+use Rattle.lines.proofs.read_six.Statement.{statement}
+use Rattle.lines.proofs.read_six.Tie as tie
 
 add-b1 : tie.Need-add-b1
 add-b1 c = search needs

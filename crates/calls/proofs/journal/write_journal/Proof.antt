@@ -1,9 +1,10 @@
 -- `calls::text::write_journal` meets its contract: the call's numbers are copied, the answer and the number are written behind them. Assumes nothing.
 use native.Mathlib.Omega.{arith}
 use borrow.Author.Needs.{needs}
-use Rattle.calls.proofs.Texts.{call-length, journal-filled}
-use Rattle.calls.proofs.text.write_journal.Statement.{statement}
-use Rattle.calls.proofs.text.write_journal.Tie as tie
+use Rattle.lines.proofs.Texts.{call-length}
+use Rattle.calls.proofs.Journals.{journal-filled}
+use Rattle.calls.proofs.journal.write_journal.Statement.{statement}
+use Rattle.calls.proofs.journal.write_journal.Tie as tie
 
 copy-numbers-requires : tie.Need-copy-numbers-requires
 copy-numbers-requires c κs = let s = c .before .before .before in omega (arith, call-length _ _ (s .pre .0), s .pre .1)

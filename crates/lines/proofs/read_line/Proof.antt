@@ -7,12 +7,12 @@ use borrow.Author.Needs.{needs}
 use lib.Dec.{eqb}
 use lib.ListN.{getD}
 use Rattle.lists.proofs.Tests.{not-no, not-yes}
-use Rattle.calls.specs.declared.text.Six.{Six}
-use Rattle.calls.specs.declared.text.Line.the-variants.{Call, Malformed}
-use Rattle.calls.specs.Lines.{sevenOf, lineIn}
-use Rattle.calls.proofs.Rows.{ReadFrom, none, next, allWhole, narrowed, line-other, line-from}
-use Rattle.calls.proofs.text.read_line.Statement.{statement}
-use Rattle.calls.proofs.text.read_line.Tie as tie
+use Rattle.lines.specs.declared.Six.{Six}
+use Rattle.lines.specs.declared.Line.the-variants.{Call, Malformed}
+use Rattle.lines.specs.Line.{sevenOf, lineIn}
+use Rattle.lines.proofs.Rows.{ReadFrom, none, next, allWhole, narrowed, line-other, line-from}
+use Rattle.lines.proofs.read_line.Statement.{statement}
+use Rattle.lines.proofs.read_line.Tie as tie
 
 -- the seven columns as they were read
 abbrev text : tie.After-read-six7 → List ℕ

@@ -16,10 +16,10 @@ use Rattle.columns.specs.Reading.{readColumn, firstColumn, Row, withColumn, row
 use Rattle.columns.proofs.Writing.{total}
 use Rattle.columns.proofs.Reading.{read-most}
 use Rattle.columns.proofs.Rows.{ended, first-part, first-short, end-one, line-read}
-use Rattle.calls.specs.declared.text.Six.{Six}
-use Rattle.calls.specs.declared.text.Line.the-variants.{Call, Malformed}
-use Rattle.calls.specs.Lines.{callWidths, sevenOf, lineIn}
-use Rattle.calls.specs.Steps.{readOf}
+use Rattle.lines.specs.declared.Six.{Six}
+use Rattle.lines.specs.declared.Line.the-variants.{Call, Malformed}
+use Rattle.lines.specs.Line.{callWidths, sevenOf, lineIn}
+use Rattle.lines.specs.Steps.{readOf}
 
 -- ---- a whole row is as long as its columns and the line feed
 rest-whole : (r : Read) (row : Row) → withColumn r row .whole ≡ true → row .whole ≡ true

@@ -1,6 +1,6 @@
 -- `calls::text::is_mark` meets its contract. Assumes nothing.
-use Rattle.calls.proofs.text.is_mark.Statement.{statement}
-use Rattle.calls.proofs.text.is_mark.Tie as tie
+use Rattle.lines.proofs.is_mark.Statement.{statement}
+use Rattle.lines.proofs.is_mark.Tie as tie
 
 returns : tie.Need-returns
 returns c = rw (c .if1 .taken)

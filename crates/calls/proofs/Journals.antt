@@ -1,63 +1,24 @@
--- Laws of a call line: what it is where it holds a call, and the journal line that begins with it. Assumes nothing.
-use Prim.Native.Nat.{ℕ, zero, suc, _+_, _<_}
+-- Laws of the journal line that begins with a call line. Assumes nothing.
+use Prim.Native.Nat.{ℕ, suc, _+_, _<_}
 use native.Mathlib.Omega.{arith}
 use native.Mathlib.Numerals.{add-one}
 use mathlib.Core.Path.{_≡_, refl, sym, _∙_}
-use mathlib.Core.Bool.{Bool, true, false, cond, false≢true}
+use mathlib.Core.Bool.{Bool, true, false≢true}
 use mathlib.Core.List.{List, [], _∷_, _++_, append-assoc, append-nil}
-use lib.ListN.{length, take, drop, getD, set, replicate, length-append, length-drop, drop-of-length-le}
+use lib.ListN.{length, take, drop, getD, set, length-append, length-drop, drop-of-length-le}
 use lib.Seq.{drop-cons, take-suc, set-at, append-snoc, take-at, take-append-add, length-take-le}
-use lib.Dec.{leb}
-use borrow.Author.Tests.{leb-true, le-leb}
+use borrow.Author.Tests.{le-leb}
 use borrow.Rule.Slice.PartMut.{midOf, putMid, postOf, mid-len, post-is}
-use Rattle.lists.proofs.Tests.{and-l, and-r, and-i}
+use Rattle.lists.proofs.Tests.{and-l, and-r}
 use Rattle.columns.specs.Column.{column, fits}
 use Rattle.columns.specs.Line.{line, allFit, Written, withLine}
-use Rattle.columns.specs.Reading.{rowOf}
-use Rattle.columns.proofs.Writing.{fits-below, column-length, total, writable-room, line-length}
-use Rattle.columns.proofs.Rows.{atMost, IsLine, line-read}
+use Rattle.columns.proofs.Writing.{column-length, total, writable-room, line-length}
+use Rattle.columns.proofs.Rows.{atMost}
 use Rattle.rules.specs.declared.Seven.{Seven}
 use Rattle.rules.specs.Journal.{journalLine}
-use Rattle.calls.specs.declared.text.Line.the-variants.{Call, Malformed}
-use Rattle.calls.specs.Lines.{callWidths, sevenOf, lineIn}
-
--- ---- a line that holds a call
-
--- the seven numbers of a call, in the order of its line
-abbrev pub numbersOf : Seven → List ℕ
-numbersOf c = c .day ∷ c .time ∷ c .call ∷ c .a ∷ c .b ∷ c .c ∷ c .d ∷ []
-
--- k numbers from place i on
-gets : ℕ → ℕ → List ℕ → List ℕ
-gets zero i ns = []
-gets (suc k) i ns = getD ns i 0 ∷ gets k (suc i) ns
-
-gets-all : (k i : ℕ) (ns : List ℕ) → i + k ≡ length ns → gets k i ns ≡ drop i ns
-unfolding gets
-gets-all zero i ns e = sym (drop-of-length-le ns {i = i} (omega arith))
-gets-all (suc k) i ns e = rw (drop-cons ns i 0 (omega arith), gets-all k (suc i) ns (omega arith))
-
--- seven numbers are those of the call that they make
-seven-numbers : (ns : List ℕ) → length ns ≡ 7 → numbersOf (sevenOf ns) ≡ ns
-unfolding gets
-seven-numbers ns e = gets-all 7 0 ns (sym e)
-
--- a line that holds a call is the line of the call's numbers, none above 65535
-pub call-line : (s : List ℕ) (c : Seven) → lineIn s ≡ Call c → IsLine 65535 callWidths s (numbersOf c)
-unfolding lineIn
-call-line s c e = go (rowOf 65535 callWidths s .whole) refl e
-  where
-    ns : List ℕ
-    ns = rowOf 65535 callWidths s .numbers
-
-    go : (t : Bool) → rowOf 65535 callWidths s .whole ≡ t → cond t (Call (sevenOf ns)) Malformed ≡ Call c → IsLine 65535 callWidths s (numbersOf c)
-    go true p q =
-        let r = line-read 65535 callWidths s p in
-        let same : sevenOf ns ≡ c = cc in
-        rw (← same, seven-numbers ns (r .count)) r
-    go false p q = let z : _≡_ {A = ℕ} 0 1 = cc in absurd (omega arith)
-
--- ---- the journal line of the call on a line
+use Rattle.lines.specs.declared.Line.the-variants.{Call}
+use Rattle.lines.specs.Line.{callWidths, lineIn}
+use Rattle.lines.proofs.Texts.{numbersOf, call-line, six-fit, call-length}
 
 -- a turn of the copy
 pub copy-step : (text out : List ℕ) (i : ℕ) → i < length text → i < length out
@@ -66,15 +27,6 @@ copy-step text out i h l =
     let front = length-take-le i text (omega arith) in
     rw (add-one, drop-cons out i 0 l, set-at (take i text) (getD out i 0) (drop (suc i) out) (getD text i 0) i front, take-suc text i 0 h)
     (sym (append-snoc (take i text) (getD text i 0) (drop (suc i) out)))
-
--- numbers of 16 bits fit columns of six
-six-fit : (ns : List ℕ) → atMost 65535 ns ≡ true → allFit (replicate (length ns) 6) ns ≡ true
-unfolding atMost allFit
-six-fit [] h = refl
-six-fit (n ∷ ns) h =
-    let small = leb-true n 65535 (and-l (leb n 65535) (atMost 65535 ns) h) in
-    and-i (fits 6 n) (allFit (replicate (length ns) 6) ns) (fits-below 6 n (omega arith) (omega arith))
-    (six-fit ns (and-r (leb n 65535) (atMost 65535 ns) h))
 
 -- a line without its line feed, with another line behind it, is one line
 line-append : (ws vs ns ms : List ℕ) → allFit ws ns ≡ true → take (total ws) (line ws ns) ++ line vs ms ≡ line (ws ++ vs) (ns ++ ms)
@@ -95,13 +47,6 @@ unfolding journalLine total
 journal-line s c answer number e =
     let l = call-line s c e in
     rw (l .text) (line-append callWidths (6 ∷ 6 ∷ []) (numbersOf c) (answer ∷ number ∷ []) (six-fit (numbersOf c) (l .small)))
-
--- a line that holds a call is 43 bytes long
-pub call-length : (s : List ℕ) (c : Seven) → lineIn s ≡ Call c → length s ≡ 43
-unfolding total
-call-length s c e =
-    let l = call-line s c e in
-    rw (l .text) (line-length callWidths (numbersOf c) (six-fit (numbersOf c) (l .small)))
 
 -- the numbers copied to a buffer of 55 bytes, and the answer and the number written behind them
 pub journal-filled : (s out copied last : List ℕ) (c : Seven) (answer number : ℕ) (r : Bool)

@@ -5,9 +5,9 @@ use Prim.Native.Nat.{_-_, _≤_}
 use native.Mathlib.Omega.{arith}
 use borrow.Author.Needs.{needs}
 use lib.ListN.{length, take, drop, length-set}
-use Rattle.calls.proofs.Texts.{copy-step}
-use Rattle.calls.proofs.text.copy_numbers.Statement.{statement}
-use Rattle.calls.proofs.text.copy_numbers.Tie as tie
+use Rattle.calls.proofs.Journals.{copy-step}
+use Rattle.calls.proofs.journal.copy_numbers.Statement.{statement}
+use Rattle.calls.proofs.journal.copy_numbers.Tie as tie
 
 abbrev Inv-loop : tie.InvT-loop
 Inv-loop text out₀ i₀ out i = (i ≤ 42) × (length out ≡ length out₀) × (out ≡ take i text ++ drop i out₀)

@@ -5,7 +5,7 @@ use mathlib.Core.Bool.{Bool, cond, _&&_}
 use lib.Dec.{eqb, leb}
 use Rattle.columns.specs.declared.read.Read.{Read}
 use Rattle.columns.specs.declared.read.Read.the-variants.{Number, Malformed}
-use Rattle.calls.specs.declared.text.Six.{Six}
+use Rattle.lines.specs.declared.Six.{Six}
 
 -- the byte is a digit where one is due, else a blank
 abbrev pub isMark : Bool → ℕ → Bool

@@ -1,0 +1,3 @@
+-- The definitions that the contracts of this crate cite, in reading order.
+pub mod Line
+pub mod Steps
