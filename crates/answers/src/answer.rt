@@ -12,20 +12,20 @@ use crate::decide::decide_grant;
 use crate::decide::decide_hand_over;
 use crate::decide::decide_reoccupy;
 use crate::decide::decide_withdraw;
-use crate::movement::answer_move;
-use crate::movement::answer_passed;
-use crate::refusal::ALREADY_SO;
-use crate::refusal::FULL;
-use crate::refusal::NO_FACILITY;
-use crate::refusal::NOT_LIVE;
-use crate::refusal::STILL_NEEDED;
 use crate::terms::answer_term;
 use authorities::Found;
+use movements::answer_move;
+use movements::answer_passed;
 use places::Head;
 use rules::AuthorityNo;
 use rules::Call;
 use rules::GateNo;
 use rules::Seven;
+use rules::refusal::ALREADY_SO;
+use rules::refusal::FULL;
+use rules::refusal::NO_FACILITY;
+use rules::refusal::NOT_LIVE;
+use rules::refusal::STILL_NEEDED;
 
 fn answer_request(
     head: Head,

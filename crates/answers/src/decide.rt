@@ -10,20 +10,20 @@ use crate::condition::is_occupied;
 use crate::condition::is_occupied_beside;
 use crate::condition::is_overlapping;
 use crate::condition::is_unprotected;
-use crate::refusal::ALREADY_SO;
-use crate::refusal::ASSURANCE;
-use crate::refusal::OCCUPIED;
-use crate::refusal::OFFICER;
-use crate::refusal::OVERLAP;
-use crate::refusal::SITE;
-use crate::refusal::STAGE;
-use crate::refusal::TERM;
-use crate::refusal::UNPROTECTED;
 use crate::terms::is_outside_term;
 use places::Head;
 use rules::Authority;
 use rules::AuthorityNo;
 use rules::Seven;
+use rules::refusal::ALREADY_SO;
+use rules::refusal::ASSURANCE;
+use rules::refusal::OCCUPIED;
+use rules::refusal::OFFICER;
+use rules::refusal::OVERLAP;
+use rules::refusal::SITE;
+use rules::refusal::STAGE;
+use rules::refusal::TERM;
+use rules::refusal::UNPROTECTED;
 
 // 6 and 7 of WITHDRAW, with the authority found.
 pub fn decide_withdraw(a: Authority, officer: u16) -> u16

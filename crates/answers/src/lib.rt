@@ -2,8 +2,6 @@
 mod answer;
 mod condition;
 mod decide;
-mod movement;
-pub mod refusal;
 mod terms;
 
 pub use answer::answer_of;

@@ -5,16 +5,16 @@ ghost use Rattle.rules.specs.Board.{hasTerm};
 ghost use Rattle.rules.specs.Call.{minuteOf};
 ghost use Rattle.rules.specs.Refusals.{_when_, lowest, notPendingLpa, tooSoon, outsideTerm, termRefusals};
 ghost use Rattle.places.specs.Places.{HeadBounds, boardIn};
-use crate::refusal::ALREADY_SO;
-use crate::refusal::NOT_LIVE;
-use crate::refusal::NOTICE;
-use crate::refusal::STAGE;
 use authorities::Found;
 use decode::minute_of;
 use places::Head;
 use rules::Authority;
 use rules::AuthorityNo;
 use rules::Seven;
+use rules::refusal::ALREADY_SO;
+use rules::refusal::NOT_LIVE;
+use rules::refusal::NOTICE;
+use rules::refusal::STAGE;
 
 // 21: the start is before the call or less than 10,080 minutes after it.
 fn is_too_soon(s: Seven, start: u32) -> bool

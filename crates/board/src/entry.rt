@@ -12,11 +12,6 @@ ghost use Rattle.board.specs.Lent.{TakePost};
 ghost use Rattle.board.specs.Faults.{faultOf};
 ghost use Rattle.board.specs.Steps.{freshWith, withRoom};
 use answers::answer_of;
-use answers::refusal::CLOCK;
-use answers::refusal::FIELD;
-use answers::refusal::NO_SUCH_CALL;
-use answers::refusal::PLAN;
-use answers::refusal::SHORT_LINE;
 use effects::effect_of;
 use places::Head;
 use rules::Authority;
@@ -30,6 +25,11 @@ use rules::Register;
 use rules::Seven;
 use rules::Train;
 use rules::TrainNo;
+use rules::refusal::CLOCK;
+use rules::refusal::FIELD;
+use rules::refusal::NO_SUCH_CALL;
+use rules::refusal::PLAN;
+use rules::refusal::SHORT_LINE;
 
 // A freshly opened board.
 fn fresh(portions: u16, gate_count: usize, gates: [Gate; 64]) -> Register

@@ -1,4 +1,6 @@
-// The types that the rules and the code share. No function: documents 01 and 02 stand in specs/ as definitions, the theorems in proofs/.
+// The types that the rules and the code share, and the refusals by name. No function: documents 01 and 02 stand in specs/ as definitions, the
+// theorems in proofs/.
+pub mod refusal;
 
 // The three kinds of number that are never taken for one another.
 pub struct AuthorityNo(pub u16);

@@ -13,9 +13,7 @@ use crate::cells::authority_cells;
 use crate::cells::total_cells;
 use columns::Cell;
 use rules::Register;
-
-// The buffer is shorter than 33 lines of 73 bytes.
-const SHORT_PAGE: u16 = 23;
+use rules::refusal::SHORT_PAGE;
 
 // 0 or the refusal, and how many lines were written.
 pub struct Written {

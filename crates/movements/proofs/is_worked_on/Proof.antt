@@ -1,11 +1,11 @@
--- `answers::movement::is_worked_on` meets its contract. Assumes nothing.
+-- `movements::is_worked_on` meets its contract. Assumes nothing.
 use mathlib.Core.Path.{sym, _∙_}
 use borrow.Author.Needs.{needs}
 use Rattle.rules.specs.Board.{boardOf}
 use Rattle.rules.specs.Refusals.{anyW, theW, workedOn}
 use Rattle.authorities.proofs.AuthorityLaws.{found-none, found-is}
-use Rattle.answers.proofs.movement.is_worked_on.Statement.{statement}
-use Rattle.answers.proofs.movement.is_worked_on.Tie as tie
+use Rattle.movements.proofs.is_worked_on.Statement.{statement}
+use Rattle.movements.proofs.is_worked_on.Tie as tie
 
 enum-known-w : tie.Need-enum-known-w
 enum-known-w c = search needs

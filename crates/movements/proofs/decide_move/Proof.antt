@@ -1,4 +1,4 @@
--- `answers::movement::decide_move` meets its contract: each test that was not taken passes over one refusal of the list. Assumes nothing.
+-- `movements::decide_move` meets its contract: each test that was not taken passes over one refusal of the list. Assumes nothing.
 use Prim.Native.Nat.{ℕ}
 use mathlib.Core.Path.{_≡_, sym, _∙_}
 use mathlib.Core.List.{List}
@@ -7,8 +7,8 @@ use lib.ListN.{drop}
 use borrow.Author.Needs.{needs}
 use Rattle.rules.specs.Refusals.{Refusal, lowest, moveRefusals}
 use Rattle.places.specs.Places.{boardIn}
-use Rattle.answers.proofs.movement.decide_move.Statement.{statement}
-use Rattle.answers.proofs.movement.decide_move.Tie as tie
+use Rattle.movements.proofs.decide_move.Statement.{statement}
+use Rattle.movements.proofs.decide_move.Tie as tie
 
 abbrev refusals : tie.Start → List Refusal
 refusals s =

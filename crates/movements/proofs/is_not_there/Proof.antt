@@ -1,4 +1,4 @@
--- `answers::movement::is_not_there` meets its contract. Assumes nothing.
+-- `movements::is_not_there` meets its contract. Assumes nothing.
 use mathlib.Core.Path.{_≡_, refl}
 use mathlib.Core.Bool.{Bool, true, false, cond, not}
 use denote.Ref.{now}
@@ -9,8 +9,8 @@ use Rattle.rules.specs.Board.{boardOf, isOutside}
 use Rattle.rules.specs.Refusals.{isAt, notThere}
 use Rattle.places.specs.Places.{registerIn}
 use Rattle.trains.proofs.TrainLaws.{There, train-there, train-missing}
-use Rattle.answers.proofs.movement.is_not_there.Statement.{statement}
-use Rattle.answers.proofs.movement.is_not_there.Tie as tie
+use Rattle.movements.proofs.is_not_there.Statement.{statement}
+use Rattle.movements.proofs.is_not_there.Tie as tie
 
 -- "not", by its two cases
 turned : (t : Bool) → not t ≡ cond t false true

@@ -1,11 +1,11 @@
--- `answers::movement::is_taken` meets its contract. Assumes nothing.
+-- `movements::is_taken` meets its contract. Assumes nothing.
 use borrow.Author.Needs.{needs}
 use Rattle.rules.specs.Board.{boardOf}
 use Rattle.rules.specs.Refusals.{anyE, taken}
 use Rattle.authorities.proofs.AuthorityLaws.{found-any}
 use Rattle.trains.proofs.TrainLaws.{any-other-at}
-use Rattle.answers.proofs.movement.is_taken.Statement.{statement}
-use Rattle.answers.proofs.movement.is_taken.Tie as tie
+use Rattle.movements.proofs.is_taken.Statement.{statement}
+use Rattle.movements.proofs.is_taken.Tie as tie
 
 is-found-requires : tie.Need-is-found-requires
 is-found-requires c κs = search needs

@@ -5,19 +5,19 @@ ghost use Rattle.rules.specs.Refusals.{lowest, isE, isW, noRoom, taken, workedO
 ghost use Rattle.lists.specs.Prefix.{prefix};
 ghost use Rattle.places.specs.Places.{HeadBounds, authoritiesIn, boardIn};
 ghost use Rattle.authorities.specs.Authorities.{foundIn};
-use crate::refusal::ALREADY_SO;
-use crate::refusal::BLOCKED;
-use crate::refusal::FULL;
-use crate::refusal::NO_TRAIN;
-use crate::refusal::NOT_PILOTED;
-use crate::refusal::OCCUPIED;
-use crate::refusal::SITE;
 use authorities::Found;
 use places::Head;
 use rules::AuthorityNo;
 use rules::Gate;
 use rules::GateNo;
 use rules::TrainNo;
+use rules::refusal::ALREADY_SO;
+use rules::refusal::BLOCKED;
+use rules::refusal::FULL;
+use rules::refusal::NO_TRAIN;
+use rules::refusal::NOT_PILOTED;
+use rules::refusal::OCCUPIED;
+use rules::refusal::SITE;
 use trains::FoundTrain;
 use trains::TrainQuery;
 

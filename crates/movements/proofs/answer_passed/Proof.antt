@@ -1,4 +1,4 @@
--- `answers::movement::answer_passed` meets its contract. Assumes nothing.
+-- `movements::answer_passed` meets its contract. Assumes nothing.
 use denote.Ref.{now}
 use borrow.Author.Tests.{eq-eqb, ne-eqb}
 use borrow.Author.Needs.{needs}
@@ -7,8 +7,8 @@ use Rattle.rules.specs.Board.{boardOf}
 use Rattle.rules.specs.Refusals.{lowest}
 use Rattle.places.specs.Places.{registerIn}
 use Rattle.trains.proofs.TrainLaws.{There, train-there, train-missing}
-use Rattle.answers.proofs.movement.answer_passed.Statement.{statement}
-use Rattle.answers.proofs.movement.answer_passed.Tie as tie
+use Rattle.movements.proofs.answer_passed.Statement.{statement}
+use Rattle.movements.proofs.answer_passed.Tie as tie
 
 -- what the arguments stand for
 abbrev register : tie.Start → Register

@@ -1,4 +1,4 @@
-// The refusals by document 01's words; 21 and 22 are 02's order 1.
+// The refusals by document 01's words; 21 and 22 are 02's order 1, 23 its order 2.
 pub const SHORT_LINE: u16 = 1;
 
 pub const NO_SUCH_CALL: u16 = 2;
@@ -42,3 +42,6 @@ pub const PLAN: u16 = 20;
 pub const NOTICE: u16 = 21;
 
 pub const TERM: u16 = 22;
+
+// The buffer is shorter than 33 lines of 73 bytes.
+pub const SHORT_PAGE: u16 = 23;

@@ -1,11 +1,11 @@
--- `answers::movement::is_not_piloted` meets its contract. Assumes nothing.
+-- `movements::is_not_piloted` meets its contract. Assumes nothing.
 use mathlib.Core.Path.{sym, _∙_}
 use borrow.Author.Needs.{needs}
 use Rattle.rules.specs.Board.{boardOf}
 use Rattle.rules.specs.Refusals.{anyE, anyW, theW, pilot, notPiloted}
 use Rattle.authorities.proofs.AuthorityLaws.{found-none, found-is}
-use Rattle.answers.proofs.movement.is_not_piloted.Statement.{statement}
-use Rattle.answers.proofs.movement.is_not_piloted.Tie as tie
+use Rattle.movements.proofs.is_not_piloted.Statement.{statement}
+use Rattle.movements.proofs.is_not_piloted.Tie as tie
 
 enum-known-e : tie.Need-enum-known-e
 enum-known-e c = search needs

@@ -1,10 +1,10 @@
--- `answers::movement::is_barred` meets its contract. Assumes nothing.
+-- `movements::is_barred` meets its contract. Assumes nothing.
 use borrow.Author.Needs.{needs}
 use Rattle.rules.specs.Board.{boardOf}
 use Rattle.rules.specs.Refusals.{isE, isW, anyE, anyW, barred}
 use Rattle.authorities.proofs.AuthorityLaws.{found-any}
-use Rattle.answers.proofs.movement.is_barred.Statement.{statement}
-use Rattle.answers.proofs.movement.is_barred.Tie as tie
+use Rattle.movements.proofs.is_barred.Statement.{statement}
+use Rattle.movements.proofs.is_barred.Tie as tie
 
 has-requires : tie.Need-has-requires
 has-requires c κs = search needs

@@ -1,9 +1,9 @@
--- `answers::movement::answer_move` meets its contract. Assumes nothing.
+-- `movements::answer_move` meets its contract. Assumes nothing.
 use borrow.Author.Needs.{needs}
 use Rattle.rules.specs.Board.{boardOf}
 use Rattle.authorities.specs.Authorities.{holdsPortion}
-use Rattle.answers.proofs.movement.answer_move.Statement.{statement}
-use Rattle.answers.proofs.movement.answer_move.Tie as tie
+use Rattle.movements.proofs.answer_move.Statement.{statement}
+use Rattle.movements.proofs.answer_move.Tie as tie
 
 gate-at-requires : tie.Need-gate-at-requires
 gate-at-requires c κs = search needs

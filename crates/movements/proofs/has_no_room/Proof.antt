@@ -1,9 +1,9 @@
--- `answers::movement::has_no_room` meets its contract. Assumes nothing.
+-- `movements::has_no_room` meets its contract. Assumes nothing.
 use Rattle.rules.specs.Board.{boardOf}
 use Rattle.rules.specs.Refusals.{noRoom}
 use Rattle.places.proofs.Registers.{trains-in-use}
-use Rattle.answers.proofs.movement.has_no_room.Statement.{statement}
-use Rattle.answers.proofs.movement.has_no_room.Tie as tie
+use Rattle.movements.proofs.has_no_room.Statement.{statement}
+use Rattle.movements.proofs.has_no_room.Tie as tie
 
 returns : tie.Need-returns
 unfolding noRoom boardOf
