@@ -23,7 +23,7 @@ use Rattle.rules.proofs.Accepted.{Ranges, in-ranges}
 use Rattle.rules.proofs.Answers.{refused-same, refused-none, short-answer, short-line, long-line}
 use Rattle.rules.proofs.Once.{once-after}
 use Rattle.rules.proofs.Terms.{starts-after}
-use Rattle.places.specs.declared.whole.Head.{Head}
+use Rattle.places.specs.declared.head.Head.{Head}
 use Rattle.places.specs.Places.{HeadBounds, boardIn}
 use Rattle.board.specs.Lent.{TakePost}
 use Rattle.board.specs.Faults.{faultOf}

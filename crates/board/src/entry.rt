@@ -210,9 +210,9 @@ fn take_whole(register: Register, seven: Seven) -> Called
     let mut gates = [0u16; 192];
     let mut authorities = [0u64; 256];
     let mut trains = [0u16; 128];
-    places::write_gates(register, &mut gates);
-    places::write_authorities(register, &mut authorities);
-    places::write_trains(register, &mut trains);
+    registers::write_gates(register, &mut gates);
+    registers::write_authorities(register, &mut authorities);
+    registers::write_trains(register, &mut trains);
     let taken = take(
         places::head_of(register),
         &gates,
@@ -229,7 +229,7 @@ fn take_whole(register: Register, seven: Seven) -> Called
     }
     let head = taken.head;
     Called {
-        register: places::read_register(head, &gates, &authorities, &trains),
+        register: registers::read_register(head, &gates, &authorities, &trains),
         answer: taken.answer,
         number: taken.number,
     }

@@ -66,9 +66,9 @@ pub fn run(register: Register, text: &[u8], out: &mut [u8]) -> Ran
     let mut gates = [0u16; 192];
     let mut authorities = [0u64; 256];
     let mut trains = [0u16; 128];
-    places::write_gates(register, &mut gates);
-    places::write_authorities(register, &mut authorities);
-    places::write_trains(register, &mut trains);
+    registers::write_gates(register, &mut gates);
+    registers::write_authorities(register, &mut authorities);
+    registers::write_trains(register, &mut trains);
     let ran = run_lines(
         places::head_of(register),
         &gates,
@@ -79,7 +79,7 @@ pub fn run(register: Register, text: &[u8], out: &mut [u8]) -> Ran
     );
     let head = ran.head;
     Ran {
-        register: places::read_register(head, &gates, &authorities, &trains),
+        register: registers::read_register(head, &gates, &authorities, &trains),
         lines: ran.lines,
     }
 }

@@ -24,7 +24,7 @@ use Rattle.rules.specs.declared.Register.{Register}
 use Rattle.rules.specs.Board.{boardOf, noAuthority, noTrain, isAuthority, isTrain, authority, train, withAuthorities, withTrains, withBlocks, withLast}
 use Rattle.rules.specs.Refusals.{Refusal, _when_, lowest, full, noRoom, own}
 use Rattle.rules.specs.Effects.{effect}
-use Rattle.places.specs.declared.whole.Head.{Head}
+use Rattle.places.specs.declared.head.Head.{Head}
 use Rattle.places.specs.Places.{authoritiesIn, trainsIn, headOf, registerIn, HeadBounds}
 use Rattle.authorities.specs.declared.Found.{Found}
 use Rattle.authorities.specs.declared.Found.the-variants as Found

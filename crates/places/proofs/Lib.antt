@@ -1,5 +1,4 @@
 -- The laws of this crate.
 pub mod Groups
 pub mod Lent
-pub mod Copying
 pub mod Registers

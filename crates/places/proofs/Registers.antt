@@ -8,7 +8,7 @@ use Rattle.lists.specs.Prefix.{prefix}
 use Rattle.lists.proofs.Prefix.{length-prefix}
 use Rattle.rules.specs.declared.Register.{Register}
 use Rattle.rules.specs.Step.{Bounds}
-use Rattle.places.specs.declared.whole.Head.{Head}
+use Rattle.places.specs.declared.head.Head.{Head}
 use Rattle.places.specs.Places.{gateFrom, authorityFrom, trainFrom, gatesIn, authoritiesIn, trainsIn, headOf, registerIn, HeadBounds}
 use Rattle.places.proofs.Groups.{length-places}
 

@@ -10,7 +10,7 @@ use Rattle.rules.specs.declared.Train.{Train}
 use Rattle.rules.specs.declared.Register.{Register}
 use Rattle.rules.specs.Board.{Board, boardOf}
 use Rattle.rules.specs.Call.{kindOf}
-use Rattle.places.specs.declared.whole.Head.{Head}
+use Rattle.places.specs.declared.head.Head.{Head}
 
 -- a list as n groups of w numbers each
 unfoldable pub groups : ℕ → ℕ → List ℕ → List (List ℕ)

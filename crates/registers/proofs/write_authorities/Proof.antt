@@ -1,12 +1,12 @@
--- `places::whole::write_authorities` meets its contract. The invariant: the first i authorities are stored. Assumes nothing.
+-- `registers::write_authorities` meets its contract. The invariant: the first i authorities are stored. Assumes nothing.
 use Prim.Native.Nat.{_-_}
 use native.Mathlib.Omega.{arith}
 use Rattle.lists.proofs.Prefix.{unmapped}
 use Rattle.places.specs.Places.{authoritiesIn}
-use Rattle.places.proofs.Copying.{Copied, copy-start, copy-next, copy-end}
 use Rattle.places.proofs.Registers.{authorities-length}
-use Rattle.places.proofs.whole.write_authorities.Statement.{statement}
-use Rattle.places.proofs.whole.write_authorities.Tie as tie
+use Rattle.registers.proofs.Copying.{Copied, copy-start, copy-next, copy-end}
+use Rattle.registers.proofs.write_authorities.Statement.{statement}
+use Rattle.registers.proofs.write_authorities.Tie as tie
 
 abbrev Inv-loop : tie.InvT-loop
 Inv-loop authorities₀ r i₀ authorities i = Copied 32 i (r .authorities) (authoritiesIn authorities)

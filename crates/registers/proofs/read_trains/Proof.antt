@@ -1,14 +1,14 @@
--- `places::whole::read_trains` meets its contract. The invariant: the first i trains are read. Assumes nothing.
+-- `registers::read_trains` meets its contract. The invariant: the first i trains are read. Assumes nothing.
 use Prim.Native.Nat.{_-_}
 use native.Mathlib.Omega.{arith}
 use mathlib.Core.Path.{refl, ap}
 use lib.ListN.{set}
 use Rattle.rules.specs.Board.{noTrain}
 use Rattle.places.specs.Places.{trainsIn}
-use Rattle.places.proofs.Copying.{Copied, copy-start, copy-next, copy-end}
 use Rattle.places.proofs.Registers.{trains-length}
-use Rattle.places.proofs.whole.read_trains.Statement.{statement}
-use Rattle.places.proofs.whole.read_trains.Tie as tie
+use Rattle.registers.proofs.Copying.{Copied, copy-start, copy-next, copy-end}
+use Rattle.registers.proofs.read_trains.Statement.{statement}
+use Rattle.registers.proofs.read_trains.Tie as tie
 
 abbrev Inv-loop : tie.InvT-loop
 Inv-loop trains list₀ i₀ list i = Copied 32 i (trainsIn trains) list

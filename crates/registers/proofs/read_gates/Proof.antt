@@ -1,14 +1,14 @@
--- `places::whole::read_gates` meets its contract. The invariant: the first i gates are read. Assumes nothing.
+-- `registers::read_gates` meets its contract. The invariant: the first i gates are read. Assumes nothing.
 use Prim.Native.Nat.{_-_}
 use native.Mathlib.Omega.{arith}
 use mathlib.Core.Path.{refl, ap}
 use lib.ListN.{set}
 use Rattle.rules.specs.Board.{noGate}
 use Rattle.places.specs.Places.{gatesIn}
-use Rattle.places.proofs.Copying.{Copied, copy-start, copy-next, copy-end}
 use Rattle.places.proofs.Registers.{gates-length}
-use Rattle.places.proofs.whole.read_gates.Statement.{statement}
-use Rattle.places.proofs.whole.read_gates.Tie as tie
+use Rattle.registers.proofs.Copying.{Copied, copy-start, copy-next, copy-end}
+use Rattle.registers.proofs.read_gates.Statement.{statement}
+use Rattle.registers.proofs.read_gates.Tie as tie
 
 abbrev Inv-loop : tie.InvT-loop
 Inv-loop gates list₀ i₀ list i = Copied 64 i (gatesIn gates) list

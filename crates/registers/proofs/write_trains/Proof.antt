@@ -1,12 +1,12 @@
--- `places::whole::write_trains` meets its contract. The invariant: the first i trains are stored. Assumes nothing.
+-- `registers::write_trains` meets its contract. The invariant: the first i trains are stored. Assumes nothing.
 use Prim.Native.Nat.{_-_}
 use native.Mathlib.Omega.{arith}
 use Rattle.lists.proofs.Prefix.{unmapped}
 use Rattle.places.specs.Places.{trainsIn}
-use Rattle.places.proofs.Copying.{Copied, copy-start, copy-next, copy-end}
 use Rattle.places.proofs.Registers.{trains-length}
-use Rattle.places.proofs.whole.write_trains.Statement.{statement}
-use Rattle.places.proofs.whole.write_trains.Tie as tie
+use Rattle.registers.proofs.Copying.{Copied, copy-start, copy-next, copy-end}
+use Rattle.registers.proofs.write_trains.Statement.{statement}
+use Rattle.registers.proofs.write_trains.Tie as tie
 
 abbrev Inv-loop : tie.InvT-loop
 Inv-loop trains₀ r i₀ trains i = Copied 32 i (r .trains) (trainsIn trains)

@@ -1,12 +1,12 @@
--- `places::whole::write_gates` meets its contract. The invariant: the first i gates are stored. Assumes nothing.
+-- `registers::write_gates` meets its contract. The invariant: the first i gates are stored. Assumes nothing.
 use Prim.Native.Nat.{_-_}
 use native.Mathlib.Omega.{arith}
 use Rattle.lists.proofs.Prefix.{unmapped}
 use Rattle.places.specs.Places.{gatesIn}
-use Rattle.places.proofs.Copying.{Copied, copy-start, copy-next, copy-end}
 use Rattle.places.proofs.Registers.{gates-length}
-use Rattle.places.proofs.whole.write_gates.Statement.{statement}
-use Rattle.places.proofs.whole.write_gates.Tie as tie
+use Rattle.registers.proofs.Copying.{Copied, copy-start, copy-next, copy-end}
+use Rattle.registers.proofs.write_gates.Statement.{statement}
+use Rattle.registers.proofs.write_gates.Tie as tie
 
 abbrev Inv-loop : tie.InvT-loop
 Inv-loop gates₀ r i₀ gates i = Copied 64 i (r .gates) (gatesIn gates)

@@ -1,14 +1,14 @@
--- `places::whole::read_authorities` meets its contract. The invariant: the first i authorities are read. Assumes nothing.
+-- `registers::read_authorities` meets its contract. The invariant: the first i authorities are read. Assumes nothing.
 use Prim.Native.Nat.{_-_}
 use native.Mathlib.Omega.{arith}
 use mathlib.Core.Path.{refl, ap}
 use lib.ListN.{set}
 use Rattle.rules.specs.Board.{noAuthority}
 use Rattle.places.specs.Places.{authoritiesIn}
-use Rattle.places.proofs.Copying.{Copied, copy-start, copy-next, copy-end}
 use Rattle.places.proofs.Registers.{authorities-length}
-use Rattle.places.proofs.whole.read_authorities.Statement.{statement}
-use Rattle.places.proofs.whole.read_authorities.Tie as tie
+use Rattle.registers.proofs.Copying.{Copied, copy-start, copy-next, copy-end}
+use Rattle.registers.proofs.read_authorities.Statement.{statement}
+use Rattle.registers.proofs.read_authorities.Tie as tie
 
 abbrev Inv-loop : tie.InvT-loop
 Inv-loop authorities list₀ i₀ list i = Copied 32 i (authoritiesIn authorities) list

@@ -1,7 +1,7 @@
--- `places::whole::read_register` meets its contract. Assumes nothing.
+-- `registers::read_register` meets its contract. Assumes nothing.
 use borrow.Author.Needs.{needs}
-use Rattle.places.proofs.whole.read_register.Statement.{statement}
-use Rattle.places.proofs.whole.read_register.Tie as tie
+use Rattle.registers.proofs.read_register.Statement.{statement}
+use Rattle.registers.proofs.read_register.Tie as tie
 
 read-gates-requires : tie.Need-read-gates-requires
 read-gates-requires c κs = search needs

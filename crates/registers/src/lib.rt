@@ -1,12 +1,13 @@
-// A whole register put into the arrays, and read back from them.
+// A whole register put into the arrays of numbers, and read back from them.
 ghost use mathlib.Core.Path.{_≡_};
-ghost use Rattle.places.specs.Places.{gatesIn, authoritiesIn, trainsIn, headOf, registerIn};
-use crate::authority::authority_at;
-use crate::authority::put_authority;
-use crate::gate::gate_at;
-use crate::gate::put_gate;
-use crate::train::put_train;
-use crate::train::train_at;
+ghost use Rattle.places.specs.Places.{gatesIn, authoritiesIn, trainsIn, registerIn};
+use places::Head;
+use places::authority_at;
+use places::gate_at;
+use places::put_authority;
+use places::put_gate;
+use places::put_train;
+use places::train_at;
 use rules::Authority;
 use rules::AuthorityNo;
 use rules::Gate;
@@ -14,33 +15,6 @@ use rules::Kind;
 use rules::Register;
 use rules::Train;
 use rules::TrainNo;
-
-// What a register holds beside its arrays.
-pub struct Head {
-    pub portions: u16,
-    pub gate_count: usize,
-    pub day: u16,
-    pub time: u16,
-    pub last: u16,
-    pub blocks: u64,
-    pub live: usize,
-    pub running: usize,
-}
-
-pub fn head_of(r: Register) -> Head
-    ensures { λ h. ⌜ h ≡ headOf r ⌝ }
-{
-    Head {
-        portions: r.portions,
-        gate_count: r.gate_count,
-        day: r.day,
-        time: r.time,
-        last: r.last,
-        blocks: r.blocks,
-        live: r.live,
-        running: r.running,
-    }
-}
 
 pub fn write_gates(r: Register, gates: &mut [u16; 192])
     ensures { λ _. ⌜ gatesIn (now (gates .exit)) ≡ r .gates ⌝ }
