@@ -1,16 +1,13 @@
--- Worked examples, computed: 01's journal line E1 byte for byte, texts that are and are not numbers in columns, and cells of a page. Assumes nothing.
+-- Worked examples, computed: 01's journal line E1 byte for byte, and texts that are and are not numbers in columns. Assumes nothing.
 use mathlib.Core.Path.{_≡_, refl}
 use mathlib.Core.Bool.{true, false}
 use mathlib.Core.List.{List, [], _∷_}
 use Prim.Native.Nat.{ℕ}
 use lib.ListN.{replicate}
-use Rattle.lists.specs.Search.{any}
 use Rattle.columns.specs.declared.read.Read.the-variants.{Number, Malformed}
-use Rattle.columns.specs.declared.cell.Cell.the-variants.{Empty, Minus}
 use Rattle.columns.specs.Text.{bytes}
 use Rattle.columns.specs.Column.{digitsIn, digits, column, fits}
 use Rattle.columns.specs.Line.{line, allFit, writable, withLine}
-use Rattle.columns.specs.Cells.{difference, marks, cell, cellFits, cellIn}
 use Rattle.columns.specs.Reading.{sameText, valueFrom, isColumn, readColumn, firstColumn, rowOf}
 
 -- the seven numbers of E1, its answer and the number allotted
@@ -69,29 +66,3 @@ greatest = refl
 pub too-great : readColumn 65535 (bytes " 65536") ≡ Malformed
 unfolding digitsIn digits column sameText valueFrom isColumn readColumn bytes
 too-great = refl
-
--- cells of a page: an overrun, and one that fills its columns; no minute left; nothing
-pub overrun : cell 9 (difference 1000 1055) ≡ bytes "      -55"
-unfolding digitsIn digits marks cell difference bytes
-overrun = refl
-
-pub longest : cell 9 (Minus 14389918) ≡ bytes "-14389918"
-unfolding digitsIn digits marks cell bytes
-longest = refl
-
-pub none-left : cell 9 (difference 1055 1055) ≡ bytes "        0"
-unfolding digitsIn digits marks cell difference bytes
-none-left = refl
-
-pub nothing : cell 9 Empty ≡ bytes "         "
-unfolding marks cell bytes
-nothing = refl
-
--- a minus sign takes a column; and read back
-pub no-room : cellFits 2 (Minus 55) ≡ false
-unfolding digitsIn digits marks cellFits
-no-room = refl
-
-pub overrun-read : cellIn (bytes "      -55") ≡ Minus 55
-unfolding any valueFrom cellIn bytes
-overrun-read = refl

@@ -13,7 +13,7 @@ use lib.Dec.{ltb, leb}
 use lib.ListN.{length, take, drop, set, getD, drop-of-length-le}
 use lib.Seq.{drop-cons, drop-at, length-take-le, set-split}
 use Rattle.lists.proofs.Tests.{truth, same-test, and-l, and-r}
-use Rattle.columns.specs.Column.{digits, column, fits}
+use Rattle.columns.specs.Column.{digits, column, fits, ColumnFilled}
 use Rattle.columns.specs.Line.{line, allFit, writable, withLine, Written}
 use Rattle.columns.specs.Steps.{mark}
 use Rattle.columns.proofs.Writing.{count-some, fits-below, below-fits, column-length, part-done, front, column-front, total, line-length, writable-known}
@@ -67,6 +67,14 @@ front-step t i j n v h e m =
 pub front-done : (t : List ℕ) (i n : ℕ) → i ≡ 0 → front i n ++ drop i t ≡ t
 unfolding front
 front-done t i n e = rw e
+
+-- what is left of a text that the number does not fit
+pub unfilled : (t : List ℕ) (n : ℕ) → fits (length t) n ≡ false → ColumnFilled t n t false
+unfilled t n e = record { answered = sym e; bytes = rw e }
+
+-- and of one that it fits
+pub filled : (t : List ℕ) (n : ℕ) (after : List ℕ) → fits (length t) n ≡ true → after ≡ column (length t) n → ColumnFilled t n after true
+filled t n after e p = record { answered = sym e; bytes = rw e p }
 
 -- ---- a line
 -- the length of a line and of s bytes before it, 0 where they cannot be written

@@ -1,10 +1,9 @@
--- The laws of columns that the crates above cite, and, not public, the lemmas that they and the functions' proofs stand on.
+-- The laws of columns that the crates above cite, and, not public, the steps of the code that writes.
 pub mod Digits
 pub mod Writing
 mod Filling
-mod Scan
-mod Texts
+pub mod Scan
+pub mod Texts
 pub mod Reading
 pub mod Rows
-pub mod Cells
 pub mod Examples

@@ -13,8 +13,8 @@ use Rattle.lists.proofs.Tests.{and-l, and-r}
 use Rattle.columns.specs.declared.read.Read.{Read}
 use Rattle.columns.specs.declared.read.Read.the-variants.{Number, Malformed}
 use Rattle.columns.specs.Column.{digits, column, fits}
-use Rattle.columns.specs.Reading.{valueFrom, isColumn, readColumn}
-use Rattle.columns.specs.Steps.{blanks, scanDigits}
+use Rattle.columns.specs.Reading.{blanks, valueFrom, isColumn, readColumn}
+use Rattle.columns.specs.Steps.{scanDigits}
 use Rattle.columns.proofs.Writing.{column-length}
 use Rattle.columns.proofs.Scan.{unread, bare, bare-digits, bare-is, blanks-front, blanks-split}
 use Rattle.columns.proofs.Texts.{same-refl, same-eq, value-column}

@@ -7,15 +7,15 @@ use Prim.Native.Nat.{ℕ, zero, suc, _+_, _-_, _*_, _/_, _%_, _≤_, _<_}
 use native.Mathlib.Omega.{arith}
 use native.Mathlib.Numerals.{add-one}
 use borrow.Author.Tests.{lt-ltb, le-leb, leb-true, eq-eqb, ne-eqb, eqb-true, eqb-false}
-use lib.Dec.{eqb, ltb}
+use lib.Dec.{eqb}
 use lib.ListN.{length, drop, replicate, getD, length-append, length-drop, length-replicate, drop-of-length-le}
 use lib.Seq.{drop-cons}
 use Rattle.lists.proofs.Tests.{lt-or-le, truth, told}
 use Rattle.columns.specs.declared.read.Read.{Read}
 use Rattle.columns.specs.declared.read.Read.the-variants.{Number, Malformed}
 use Rattle.columns.specs.Column.{digits}
-use Rattle.columns.specs.Reading.{valueFrom}
-use Rattle.columns.specs.Steps.{blanks, goesOn, scanDigits}
+use Rattle.columns.specs.Reading.{blanks, valueFrom}
+use Rattle.columns.specs.Steps.{goesOn, scanDigits}
 use Rattle.columns.proofs.Digits.{digits-one, digits-more}
 
 -- a text that holds no number holds none

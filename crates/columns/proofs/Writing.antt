@@ -2,7 +2,7 @@
 -- Assumes nothing.
 use mathlib.Core.Path.{_≡_, refl, sym, ap, ap₂, _∙_}
 use mathlib.Core.Logic.{inl, inr}
-use mathlib.Core.Bool.{true, false≢true}
+use mathlib.Core.Bool.{Bool, true, false≢true}
 use mathlib.Core.List.{List, [], _∷_, _++_, append-assoc}
 use Prim.Native.Nat.{ℕ, zero, suc, _+_, _-_, _*_, _/_, _%_, _^_, _≤_, _<_}
 use native.Mathlib.Omega.{arith}
@@ -14,7 +14,7 @@ use lib.ListN.{length, take, drop, replicate, length-append, length-replicate, l
 use lib.Seq.{length-take-le, take-at}
 use borrow.Rule.Slice.PartMut.{midOf, putMid, mid-len, post-is}
 use Rattle.lists.proofs.Tests.{lt-or-le, and-l, and-r}
-use Rattle.columns.specs.Column.{digits, column, fits}
+use Rattle.columns.specs.Column.{digits, column, fits, ColumnFilled}
 use Rattle.columns.specs.Line.{line, allFit, writable, withLine}
 use Rattle.columns.specs.Steps.{mark}
 use Rattle.columns.proofs.Digits.{digits-one, digits-more, count-one, count-more}
@@ -55,6 +55,11 @@ below-fits w n e = below-count w n (leb-true (length (digits n)) w e)
 pub column-length : (w n : ℕ) → fits w n ≡ true → length (column w n) ≡ w
 unfolding column fits
 column-length w n e = simp (length-append, length-replicate) (omega (arith, leb-true (length (digits n)) w e))
+
+-- a text filled with a number that fits it is the number's column
+pub filled-column : (t : List ℕ) (n : ℕ) (after : List ℕ) (answer : Bool) → ColumnFilled t n after answer → fits (length t) n ≡ true
+    → after ≡ column (length t) n
+filled-column t n after answer f e = f .bytes ∙ rw e
 
 -- w columns before the last, where n is left of the number
 unfoldable pub front : ℕ → ℕ → List ℕ

@@ -2,6 +2,5 @@
 pub mod Column
 pub mod Line
 pub mod Reading
-pub mod Cells
 pub mod Steps
 pub mod Text

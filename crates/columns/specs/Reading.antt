@@ -1,5 +1,5 @@
 -- Reading numbers in columns: a text is a number where it is what `column` writes for that number. Assumes nothing.
-use Prim.Native.Nat.{ℕ, _+_, _-_, _*_}
+use Prim.Native.Nat.{ℕ, suc, _+_, _-_, _*_}
 use mathlib.Core.Bool.{Bool, true, false, cond, _&&_}
 use mathlib.Core.List.{List, [], _∷_, _++_}
 use mathlib.Core.Path.{_≡_}
@@ -15,6 +15,11 @@ sameText [] [] = true
 sameText [] (b ∷ t) = false
 sameText (a ∷ s) [] = false
 sameText (a ∷ s) (b ∷ t) = eqb a b && sameText s t
+
+-- how many blanks a text starts with
+unfoldable pub blanks : List ℕ → ℕ
+blanks [] = 0
+blanks (b ∷ s) = elim (eqb b 32) [ true ↦ suc (blanks s) | false ↦ 0 ]
 
 -- the digit that a byte stands for, 0 where it stands for none
 abbrev pub digitOf : ℕ → ℕ

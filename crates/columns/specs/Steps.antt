@@ -1,6 +1,6 @@
 -- What single steps of the code compute. Only the contracts of private functions cite these; the laws in proofs/ tie them to
 -- `column` and `readColumn`, so a reader of the public contracts need not believe them. Assumes nothing.
-use Prim.Native.Nat.{ℕ, suc, _+_, _-_, _*_, _%_}
+use Prim.Native.Nat.{ℕ, _+_, _-_, _*_, _%_}
 use mathlib.Core.Bool.{Bool, true, false, cond, _&&_}
 use mathlib.Core.List.{List, [], _∷_}
 use lib.Dec.{eqb, leb}
@@ -10,11 +10,6 @@ use Rattle.columns.specs.declared.read.Read.the-variants.{Number, Malfor
 -- the byte of a column before the last, for what is left of a number: a blank for nothing, else its last digit
 abbrev pub mark : ℕ → ℕ
 mark n = cond (eqb n 0) 32 (48 + n % 10)
-
--- how many blanks a text starts with
-unfoldable pub blanks : List ℕ → ℕ
-blanks [] = 0
-blanks (b ∷ s) = elim (eqb b 32) [ true ↦ suc (blanks s) | false ↦ 0 ]
 
 -- the byte is a digit that may stand after the number v, the number that they make being at most `most`
 abbrev pub goesOn : ℕ → ℕ → ℕ → Bool

@@ -1,12 +1,11 @@
-// Numbers in fixed columns of text, right-justified behind blanks: lines of them written, columns and rows of them read; and the cells of a page.
-mod cell;
+// Numbers in fixed columns of text, right-justified behind blanks: columns and lines of them written, columns and rows of them read.
 mod read;
 mod write;
 
-pub use cell::Cell;
-pub use cell::difference;
-pub use cell::fill_cell;
 pub use read::Read;
+pub use read::blanks_of;
 pub use read::read_column;
 pub use read::read_row;
+pub use write::fill_column;
+pub use write::is_fitting;
 pub use write::write_line;

@@ -2,8 +2,8 @@
 ghost use mathlib.Core.Path.{_≡_};
 ghost use Prim.Native.Nat.{_≤_};
 ghost use lib.ListN.{length, drop};
-ghost use Rattle.columns.specs.Reading.{readColumn, RowRead};
-ghost use Rattle.columns.specs.Steps.{blanks, scanDigits};
+ghost use Rattle.columns.specs.Reading.{blanks, readColumn, RowRead};
+ghost use Rattle.columns.specs.Steps.{scanDigits};
 
 // What a text holds.
 pub enum Read {

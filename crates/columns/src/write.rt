@@ -1,10 +1,10 @@
-// Writing a line of numbers into a lent buffer.
+// Writing a number into a lent text, and a line of numbers into a lent buffer.
 ghost use mathlib.Core.Path.{_≡_};
 ghost use mathlib.Core.Bool.{true, cond};
 ghost use mathlib.Core.List.{_++_};
 ghost use Prim.Native.Nat.{_+_, _≤_};
 ghost use lib.ListN.{length, take, drop};
-ghost use Rattle.columns.specs.Column.{column, fits};
+ghost use Rattle.columns.specs.Column.{column, fits, ColumnFilled};
 ghost use Rattle.columns.specs.Line.{line, allFit, writable, Written};
 ghost use Rattle.columns.specs.Steps.{mark};
 
@@ -45,7 +45,7 @@ fn mark_of(rest: u32) -> u8
 }
 
 // Fills the whole slice with a number that fits.
-pub fn fill(t: &mut [u8], n: u32)
+fn fill(t: &mut [u8], n: u32)
     requires { ⌜ fits (length (now t)) n ≡ true ⌝ }
     ensures { λ _. ⌜ now (t .exit) ≡ column (length (now (t .entry))) n ⌝ }
 {
@@ -61,6 +61,17 @@ pub fn fill(t: &mut [u8], n: u32)
         t[i] = mark_of(rest);
         rest /= 10;
     }
+}
+
+// Fills the whole slice with a number right-justified behind blanks. False, and no byte changed, where it does not fit.
+pub fn fill_column(t: &mut [u8], n: u32) -> bool
+    ensures { λ r. ⌜ ColumnFilled (now (t .entry)) n (now (t .exit)) r ⌝ }
+{
+    if !is_fitting(t.len(), n) {
+        return false;
+    }
+    fill(t, n);
+    true
 }
 
 // Writes a number that fits into the width bytes from at; the other bytes stay.

@@ -11,7 +11,7 @@ use Rattle.lists.proofs.Tests.{truth}
 use Rattle.lists.proofs.Search.{Member}
 use Rattle.columns.specs.Text.{bytes}
 use Rattle.columns.specs.Column.{digitsIn, digits}
-use Rattle.columns.specs.Cells.{difference, marks, cell, cellLine}
+use Rattle.cells.specs.Cells.{difference, marks, cell, cellLine}
 use Rattle.portions.specs.Sets.{has, setOf, run, size, least, greatest}
 use Rattle.portions.proofs.Ends.{least-is, greatest-is}
 use Rattle.rules.specs.declared.Kind.the-variants.{Lpa, Toa, Twa}

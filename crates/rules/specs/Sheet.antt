@@ -6,9 +6,9 @@ use mathlib.Core.List.{List, [], _∷_, _++_, map}
 use lib.ListN.{length, drop, replicate}
 use lib.Dec.{ltb}
 use Rattle.lists.specs.Search.{any}
-use Rattle.columns.specs.declared.cell.Cell.{Cell}
-use Rattle.columns.specs.declared.cell.Cell.the-variants.{Empty, Number}
-use Rattle.columns.specs.Cells.{difference, cellLine}
+use Rattle.cells.specs.declared.Cell.{Cell}
+use Rattle.cells.specs.declared.Cell.the-variants.{Empty, Number}
+use Rattle.cells.specs.Cells.{difference, cellLine}
 use Rattle.portions.specs.Sets.{has, setOf, size, least, greatest}
 use Rattle.rules.specs.declared.Authority.{Authority}
 use Rattle.rules.specs.declared.Register.{Register}

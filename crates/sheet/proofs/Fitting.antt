@@ -10,11 +10,11 @@ use lib.ListN.{length, replicate}
 use Rattle.lists.specs.Search.{below}
 use Rattle.lists.proofs.Search.{length-keep}
 use Rattle.lists.proofs.Tests.{and-i}
-use Rattle.columns.specs.declared.cell.Cell.{Cell}
-use Rattle.columns.specs.declared.cell.Cell.the-variants.{Empty, Number, Minus}
-use Rattle.columns.specs.Cells.{difference, cellFits, cellLine, cellsFit}
 use Rattle.columns.proofs.Writing.{fits-below, total}
-use Rattle.columns.proofs.Cells.{number-fits, minus-fits, empty-fits, cell-line-length}
+use Rattle.cells.specs.declared.Cell.{Cell}
+use Rattle.cells.specs.declared.Cell.the-variants.{Empty, Number, Minus}
+use Rattle.cells.specs.Cells.{difference, cellFits, cellLine, cellsFit}
+use Rattle.cells.proofs.Cells.{number-fits, minus-fits, empty-fits, cell-line-length}
 use Rattle.portions.specs.Sets.{size, isMember, least, greatest}
 use Rattle.portions.proofs.Ends.{least-most, greatest-most}
 use Rattle.rules.specs.declared.Kind.{Kind}

@@ -7,11 +7,11 @@ use native.Mathlib.Omega.{arith}
 use lib.ListN.{length, take, drop, set, getD, length-append, length-drop, getD-replicate, drop-of-length-le}
 use lib.Seq.{length-take-le, take-at, drop-at, drop-drop, set-split}
 use borrow.Rule.Slice.PartMut.{midOf, putMid, post-is}
-use Rattle.columns.specs.declared.cell.Cell.{Cell}
-use Rattle.columns.specs.declared.cell.Cell.the-variants.{Empty}
-use Rattle.columns.specs.Cells.{cell, cellFits, cellLine, cellsFit, Filled}
 use Rattle.columns.proofs.Writing.{part-length, part-back}
-use Rattle.columns.proofs.Cells.{cell-length, cells-next, cell-line-step}
+use Rattle.cells.specs.declared.Cell.{Cell}
+use Rattle.cells.specs.declared.Cell.the-variants.{Empty}
+use Rattle.cells.specs.Cells.{cell, cellFits, cellLine, cellsFit, Filled}
+use Rattle.cells.proofs.Cells.{cell-length, cells-next, cell-line-step}
 use Rattle.rules.specs.Sheet.{sheetWidths, pageOf}
 use Rattle.sheet.proofs.Fitting.{line-73}
 

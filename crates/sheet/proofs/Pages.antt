@@ -9,8 +9,8 @@ use lib.ListN.{length, drop, getD, length-append, length-drop, length-map}
 use borrow.Rule.Slice.PartMut.{putMid}
 use Rattle.lists.specs.Prefix.{prefix}
 use Rattle.lists.proofs.Prefix.{length-prefix, prefix-none, prefix-next, prefix-member}
-use Rattle.columns.specs.declared.cell.Cell.{Cell}
-use Rattle.columns.specs.Cells.{cellLine, cellsFit}
+use Rattle.cells.specs.declared.Cell.{Cell}
+use Rattle.cells.specs.Cells.{cellLine, cellsFit}
 use Rattle.rules.specs.declared.Register.{Register}
 use Rattle.rules.specs.Board.{boardOf, noAuthority}
 use Rattle.rules.specs.Call.{minuteOf}

@@ -5,13 +5,13 @@ ghost use mathlib.Core.Bool.{true};
 ghost use mathlib.Core.List.{_++_, map};
 ghost use lib.ListN.{length, drop};
 ghost use Rattle.lists.specs.Prefix.{prefix};
-ghost use Rattle.columns.specs.Cells.{cellLine, cellsFit};
+ghost use Rattle.cells.specs.Cells.{cellLine, cellsFit};
 ghost use Rattle.rules.specs.Call.{minuteOf};
 ghost use Rattle.rules.specs.Step.{Kept};
 ghost use Rattle.rules.specs.Sheet.{authorityCells, sheetWidths, pageOf, SheetPost};
-use crate::cells::authority_cells;
-use crate::cells::total_cells;
-use columns::Cell;
+use crate::rows::authority_cells;
+use crate::rows::total_cells;
+use cells::Cell;
 use rules::Register;
 use rules::refusal::SHORT_PAGE;
 
@@ -29,7 +29,7 @@ fn fill_line(line: &mut [u8], cells: [Cell; 8])
     let mut k: usize = 0;
     while k < 8 {
         let at = 9 * k;
-        columns::fill_cell(&mut line[at..at + 9], cells[k]);
+        cells::fill_cell(&mut line[at..at + 9], cells[k]);
         k += 1;
     }
     line[72] = 10;

@@ -3,7 +3,7 @@ use Prim.Native.Nat.{_+_, _-_, _≤_}
 use mathlib.Core.Path.{_≡_}
 use native.Mathlib.Omega.{arith}
 use lib.ListN.{length, drop}
-use Rattle.columns.specs.Steps.{blanks}
+use Rattle.columns.specs.Reading.{blanks}
 use Rattle.columns.proofs.Scan.{blanks-step, blanks-stop, blanks-end}
 use Rattle.columns.proofs.read.blanks_of.Statement.{statement}
 use Rattle.columns.proofs.read.blanks_of.Tie as tie
