@@ -84,15 +84,7 @@ line-cells (w ∷ ws) (n ∷ ns) = ap₂ (λ (x y : List ℕ). x ++ y) (sym (num
 
 -- ---- a difference
 
--- with no minus sign it is what is left of a, and with one what b has more, which is not 0
-pub difference-number : (a b n : ℕ) → difference a b ≡ Number n → a ≡ b + n
-unfolding difference
-difference-number a b n e = go (ltb a b) refl e
-  where
-    go : (t : Bool) → ltb a b ≡ t → cond t (Minus (b - a)) (Number (a - b)) ≡ Number n → a ≡ b + n
-    go true p q = let z : _≡_ {A = ℕ} 0 1 = cc in absurd (omega arith)
-    go false p q = let z : a - b ≡ n = cc in omega (arith, ltb-false a b p)
-
+-- with a minus sign it is what b has more, which is not 0, and with none what is left of a
 pub difference-minus : (a b n : ℕ) → difference a b ≡ Minus n → (b ≡ a + n) × (0 < n)
 unfolding difference
 difference-minus a b n e = go (ltb a b) refl e
@@ -100,6 +92,14 @@ difference-minus a b n e = go (ltb a b) refl e
     go : (t : Bool) → ltb a b ≡ t → cond t (Minus (b - a)) (Number (a - b)) ≡ Minus n → (b ≡ a + n) × (0 < n)
     go true p q = let z : b - a ≡ n = cc in omega (arith, ltb-true a b p)
     go false p q = let z : _≡_ {A = ℕ} 0 1 = cc in absurd (omega arith)
+
+pub difference-number : (a b n : ℕ) → difference a b ≡ Number n → a ≡ b + n
+unfolding difference
+difference-number a b n e = go (ltb a b) refl e
+  where
+    go : (t : Bool) → ltb a b ≡ t → cond t (Minus (b - a)) (Number (a - b)) ≡ Number n → a ≡ b + n
+    go true p q = let z : _≡_ {A = ℕ} 0 1 = cc in absurd (omega arith)
+    go false p q = let z : a - b ≡ n = cc in omega (arith, ltb-false a b p)
 
 -- ---- a cell is read back, whatever its width
 
