@@ -94,7 +94,7 @@ fn answer_block(
     if portions::has(head.blocks, g.0) {
         return ALREADY_SO;
     }
-    let gate = plan::gate_at(gates, head.gate_count, g);
+    let gate = gates::gate_at(gates, head.gate_count, g);
     if gate.kind == 4 {
         return NO_FACILITY;
     }

@@ -32,7 +32,7 @@ pub fn is_unprotected(
     requires { ⌜ HeadBounds head ⌝ }
     ensures { λ x. ⌜ x ≡ unprotected (boardIn head (now (gates .entry)) (now (authorities .entry)) (now (trains .entry))) a ⌝ }
 {
-    !portions::subset(plan::needed(gates, head.gate_count, a.limits), head.blocks)
+    !portions::subset(gates::needed(gates, head.gate_count, a.limits), head.blocks)
 }
 
 // 12 of GRANT and REOCCUPY: a train touches the limits.
@@ -90,6 +90,6 @@ pub fn is_still_needed(
     requires { ⌜ HeadBounds head ⌝ }
     ensures { λ x. ⌜ x ≡ stillNeeded (boardIn head (now (gates .entry)) (now (authorities .entry)) (now (trains .entry))) (g .0) ⌝ }
 {
-    let gate = plan::gate_at(gates, head.gate_count, g);
+    let gate = gates::gate_at(gates, head.gate_count, g);
     authorities::is_still_needed(authorities, head.live, gate)
 }

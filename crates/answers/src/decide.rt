@@ -44,7 +44,7 @@ pub fn decide_agree(x: Authority, y: Authority, toa: AuthorityNo, officer: u16) 
 {
     let first = x.kind;
     let second = y.kind;
-    if !(authorities::is_toa(first) & x.in_force & authorities::is_twa(second) & !y.in_force) {
+    if !(kinds::is_toa(first) & x.in_force & kinds::is_twa(second) & !y.in_force) {
         return STAGE;
     }
     if x.officer != officer {
@@ -128,7 +128,7 @@ pub fn decide_reoccupy(
         return ALREADY_SO;
     }
     let kind = a.kind;
-    if authorities::is_twa(kind) & is_occupied(head, gates, authorities, trains, a) {
+    if kinds::is_twa(kind) & is_occupied(head, gates, authorities, trains, a) {
         return OCCUPIED;
     }
     0

@@ -33,7 +33,7 @@ pub fn is_outside_term(s: Seven, a: Authority) -> bool
     let start = a.start as u64;
     let end = start + a.length as u64;
     let now = minute_of(s.day, s.time) as u64;
-    authorities::is_lpa(kind) & ((a.length == 0) | !((start <= now) & (now < end)))
+    kinds::is_lpa(kind) & ((a.length == 0) | !((start <= now) & (now < end)))
 }
 
 // 6, 8 and 21 of TERM, with the authority found.
@@ -41,7 +41,7 @@ fn decide_term(s: Seven, a: Authority, start: u32) -> u16
     ensures { λ v. ⌜ v ≡ lowest (6 when notPendingLpa a ∷ 8 when hasTerm a ∷ 21 when tooSoon s start ∷ []) ⌝ }
 {
     let kind = a.kind;
-    if !(authorities::is_lpa(kind) & !a.in_force) {
+    if !(kinds::is_lpa(kind) & !a.in_force) {
         return STAGE;
     }
     if a.length != 0 {

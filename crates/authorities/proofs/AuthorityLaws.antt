@@ -12,7 +12,7 @@ use Rattle.rules.specs.Refusals.{notLive}
 use Rattle.authorities.specs.declared.Found.{Found}
 use Rattle.authorities.specs.declared.Found.the-variants.{Is, Nothing}
 use Rattle.authorities.specs.Authorities.{foundIn, isIn}
-use Rattle.authorities.proofs.Loops.{Searches, search-any, Tells, search-is, search-none}
+use Rattle.lists.proofs.Loops.{Searches, search-any, Tells, search-is, search-none}
 
 -- the answer is the first that passes, where some does
 pub found-searches : (test : Authority → Bool) → Searches test Is Nothing (foundIn test)

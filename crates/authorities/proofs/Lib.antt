@@ -1,3 +1,2 @@
--- The laws of the searches that the crates above cite, and those of the loops over the places.
+-- The laws of the searches that the crates above cite.
 pub mod AuthorityLaws
-pub mod Loops

@@ -5,17 +5,18 @@ ghost use mathlib.Core.List.{_++_, _∷_, []};
 ghost use Prim.Native.Nat.{_+_, _≤_, _<_};
 ghost use Rattle.lists.specs.Search.{any, keep, change};
 ghost use Rattle.lists.specs.Prefix.{prefix};
-ghost use Rattle.rules.specs.Board.{exclusive, isLpa, isToa, isTwa, isAuthority, isNotAuthority};
+ghost use Rattle.lists.specs.Places.{Holds};
+ghost use Rattle.rules.specs.Board.{isAuthority, isNotAuthority};
 ghost use Rattle.rules.specs.Refusals.{clashes, inForceNeeds};
 ghost use Rattle.places.specs.Places.{authoritiesIn};
 ghost use Rattle.authorities.specs.Authorities.{foundIn, isIn, holdsPortion, changeOf};
-ghost use Rattle.authorities.specs.Places.{Holds};
+use kinds::is_exclusive;
+use kinds::is_twa;
 use places::authority_at;
 use places::put_authority;
 use rules::Authority;
 use rules::AuthorityNo;
 use rules::Gate;
-use rules::Kind;
 
 pub enum Found {
     Is(Authority),
@@ -29,43 +30,6 @@ pub enum Change {
     Officer(u16),
     Agreed(AuthorityNo),
     Term(u32, u16),
-}
-
-pub fn is_lpa(kind: Kind) -> bool
-    ensures { λ r. ⌜ r ≡ isLpa kind ⌝ }
-{
-    match kind {
-        Kind::Lpa => true,
-        Kind::Toa => false,
-        Kind::Twa => false,
-    }
-}
-
-pub fn is_toa(kind: Kind) -> bool
-    ensures { λ r. ⌜ r ≡ isToa kind ⌝ }
-{
-    match kind {
-        Kind::Lpa => false,
-        Kind::Toa => true,
-        Kind::Twa => false,
-    }
-}
-
-pub fn is_twa(kind: Kind) -> bool
-    ensures { λ r. ⌜ r ≡ isTwa kind ⌝ }
-{
-    match kind {
-        Kind::Lpa => false,
-        Kind::Toa => false,
-        Kind::Twa => true,
-    }
-}
-
-// LPA and TOA are exclusive.
-pub fn is_exclusive(kind: Kind) -> bool
-    ensures { λ r. ⌜ r ≡ exclusive kind ⌝ }
-{
-    !is_twa(kind)
 }
 
 // Refusal 13: x is in force, another than a and old, and shares a portion with a, and a is no TWA that has x as its agreed TOA.
@@ -148,7 +112,7 @@ pub fn is_still_needed(authorities: &[u64; 256], live: usize, gate: Gate) -> boo
     let mut i: usize = 0;
     while i < live {
         let x = authority_at(authorities, i);
-        if x.in_force & plan::is_needed(x.limits, gate) {
+        if x.in_force & gates::is_needed(x.limits, gate) {
             return true;
         }
         i += 1;

@@ -32,7 +32,7 @@ use Rattle.trains.specs.declared.FoundTrain.{FoundTrain}
 use Rattle.trains.specs.declared.FoundTrain.the-variants as FoundTrain
 use Rattle.authorities.specs.Authorities.{foundIn}
 use Rattle.trains.specs.Trains.{foundTrain}
-use Rattle.authorities.specs.Places.{Holds}
+use Rattle.lists.specs.Places.{Holds}
 use Rattle.authorities.proofs.AuthorityLaws.{found-none}
 use Rattle.trains.proofs.TrainLaws.{train-none}
 use Rattle.places.specs.Places.{boardIn}

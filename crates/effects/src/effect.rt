@@ -249,7 +249,7 @@ fn move_train(
     requires { ⌜ HeadBounds head × HasRoom (registerIn head (now gates) (now authorities) (now trains)) (g .0) ⌝ }
     ensures { λ out. ⌜ EffectPost (registerIn head (now (gates .entry)) (now (authorities .entry)) (now (trains .entry))) (Call.Move t g n officer) (registerIn out (now (gates .entry)) (now (authorities .exit)) (now (trains .exit))) ⌝ }
 {
-    let gate = plan::gate_at(gates, head.gate_count, g);
+    let gate = gates::gate_at(gates, head.gate_count, g);
     let mut out = head;
     if gate.from == 99 {
         let entered = Train {

@@ -3,3 +3,4 @@ pub mod Tests
 pub mod Search
 pub mod Prefix
 pub mod Distinct
+pub mod Loops

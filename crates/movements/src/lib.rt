@@ -185,7 +185,7 @@ pub fn answer_move(
     requires { ⌜ HeadBounds head ⌝ }
     ensures { λ x. ⌜ x ≡ lowest (moveRefusals (boardIn head (now (gates .entry)) (now (authorities .entry)) (now (trains .entry))) (t .0) (g .0) (gateAt ((boardIn head (now (gates .entry)) (now (authorities .entry)) (now (trains .entry))) .gates) (g .0)) (n .0) officer) ⌝ }
 {
-    let gate = plan::gate_at(gates, head.gate_count, g);
+    let gate = gates::gate_at(gates, head.gate_count, g);
     let e = authorities::find_holding(authorities, head.live, gate.to, true);
     let w = authorities::find_holding(authorities, head.live, gate.to, false);
     decide_move(

@@ -1,3 +1,2 @@
--- The laws of the gates that limits need, which the crates above cite, and, not public, those that reading a plan stands on.
-pub mod Needs
+-- The laws that reading a plan stands on.
 mod Texts

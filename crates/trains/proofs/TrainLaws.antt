@@ -17,7 +17,7 @@ use Rattle.trains.specs.declared.TrainQuery.the-variants.{Touching, InTh
 use Rattle.trains.specs.declared.FoundTrain.{FoundTrain}
 use Rattle.trains.specs.declared.FoundTrain.the-variants.{Is, Nothing}
 use Rattle.trains.specs.Trains.{endPasses, trainPasses, foundTrain}
-use Rattle.authorities.proofs.Loops.{Searches, Tells, search-is, search-none}
+use Rattle.lists.proofs.Loops.{Searches, Tells, search-is, search-none}
 
 -- ---- the train found, by the searches of the rules
 

@@ -1,7 +1,7 @@
 -- `authorities::add_authority` meets its contract: one more stored in the first free place. Assumes nothing.
 use borrow.Author.Needs.{needs}
 use Rattle.places.proofs.Registers.{authorities-length}
-use Rattle.authorities.proofs.Loops.{one-more}
+use Rattle.lists.proofs.Loops.{one-more}
 use Rattle.authorities.proofs.add_authority.Statement.{statement}
 use Rattle.authorities.proofs.add_authority.Tie as tie
 

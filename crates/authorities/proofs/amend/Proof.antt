@@ -8,7 +8,7 @@ use Rattle.rules.specs.Board.{isAuthority}
 use Rattle.places.specs.Places.{authoritiesIn}
 use Rattle.places.proofs.Registers.{authorities-length}
 use Rattle.authorities.specs.Authorities.{changeOf}
-use Rattle.authorities.proofs.Loops.{Changing, changing-start, changing-hit, changing-miss, changing-end}
+use Rattle.lists.proofs.Loops.{Changing, changing-start, changing-hit, changing-miss, changing-end}
 use Rattle.authorities.proofs.amend.Statement.{statement}
 use Rattle.authorities.proofs.amend.Tie as tie
 

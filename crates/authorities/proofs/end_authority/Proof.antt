@@ -9,7 +9,7 @@ use borrow.Author.Tests.{eq-eqb, ne-eqb}
 use Rattle.rules.specs.Board.{isNotAuthority}
 use Rattle.places.specs.Places.{authoritiesIn}
 use Rattle.places.proofs.Registers.{authorities-length}
-use Rattle.authorities.proofs.Loops.{Keeping, keeping-start, keeping-hit, keeping-miss, keeping-end}
+use Rattle.lists.proofs.Loops.{Keeping, keeping-start, keeping-hit, keeping-miss, keeping-end}
 use Rattle.authorities.proofs.end_authority.Statement.{statement}
 use Rattle.authorities.proofs.end_authority.Tie as tie
 

@@ -7,7 +7,7 @@ use Rattle.rules.specs.Board.{isAuthority, noAuthority}
 use Rattle.places.specs.Places.{authoritiesIn}
 use Rattle.places.proofs.Registers.{authorities-length}
 use Rattle.authorities.specs.Authorities.{foundIn}
-use Rattle.authorities.proofs.Loops.{Searching, search-start, search-hit, search-miss, search-end}
+use Rattle.lists.proofs.Loops.{Searching, search-start, search-hit, search-miss, search-end}
 use Rattle.authorities.proofs.AuthorityLaws.{found-searches}
 use Rattle.authorities.proofs.find.Statement.{statement}
 use Rattle.authorities.proofs.find.Tie as tie

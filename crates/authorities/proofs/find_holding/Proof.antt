@@ -6,7 +6,7 @@ use Rattle.rules.specs.Board.{noAuthority}
 use Rattle.places.specs.Places.{authoritiesIn}
 use Rattle.places.proofs.Registers.{authorities-length}
 use Rattle.authorities.specs.Authorities.{foundIn, holdsPortion}
-use Rattle.authorities.proofs.Loops.{Searching, search-start, search-hit, search-miss, search-end}
+use Rattle.lists.proofs.Loops.{Searching, search-start, search-hit, search-miss, search-end}
 use Rattle.authorities.proofs.AuthorityLaws.{found-searches}
 use Rattle.authorities.proofs.find_holding.Statement.{statement}
 use Rattle.authorities.proofs.find_holding.Tie as tie

@@ -7,7 +7,7 @@ use Rattle.rules.specs.Board.{noAuthority}
 use Rattle.rules.specs.Refusals.{clashes}
 use Rattle.places.specs.Places.{authoritiesIn}
 use Rattle.places.proofs.Registers.{authorities-length}
-use Rattle.authorities.proofs.Loops.{Searching, any-searches, search-start, search-hit, search-miss, search-end}
+use Rattle.lists.proofs.Loops.{Searching, any-searches, search-start, search-hit, search-miss, search-end}
 use Rattle.authorities.proofs.is_overlapped.Statement.{statement}
 use Rattle.authorities.proofs.is_overlapped.Tie as tie
 

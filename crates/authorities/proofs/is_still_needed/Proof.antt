@@ -7,7 +7,7 @@ use Rattle.rules.specs.Board.{noAuthority}
 use Rattle.rules.specs.Refusals.{inForceNeeds}
 use Rattle.places.specs.Places.{authoritiesIn}
 use Rattle.places.proofs.Registers.{authorities-length}
-use Rattle.authorities.proofs.Loops.{Searching, any-searches, search-start, search-hit, search-miss, search-end}
+use Rattle.lists.proofs.Loops.{Searching, any-searches, search-start, search-hit, search-miss, search-end}
 use Rattle.authorities.proofs.is_still_needed.Statement.{statement}
 use Rattle.authorities.proofs.is_still_needed.Tie as tie
 

@@ -1,7 +1,7 @@
 -- `trains::add_train` meets its contract: one more stored in the first free place. Assumes nothing.
 use borrow.Author.Needs.{needs}
 use Rattle.places.proofs.Registers.{trains-length}
-use Rattle.authorities.proofs.Loops.{one-more}
+use Rattle.lists.proofs.Loops.{one-more}
 use Rattle.trains.proofs.add_train.Statement.{statement}
 use Rattle.trains.proofs.add_train.Tie as tie
 

@@ -6,7 +6,7 @@ use mathlib.Core.Path.{sym, ap, _∙_}
 use Rattle.places.specs.Places.{trainsIn}
 use Rattle.places.proofs.Registers.{trains-length}
 use Rattle.trains.specs.Trains.{trainTest, trainChange}
-use Rattle.authorities.proofs.Loops.{Changing, changing-start, changing-hit, changing-miss, changing-end}
+use Rattle.lists.proofs.Loops.{Changing, changing-start, changing-hit, changing-miss, changing-end}
 use Rattle.trains.proofs.change_trains.Statement.{statement}
 use Rattle.trains.proofs.change_trains.Tie as tie
 

@@ -8,7 +8,7 @@ use Rattle.places.specs.Places.{trainsIn}
 use Rattle.places.proofs.Registers.{trains-length}
 use Rattle.trains.specs.Trains.{foundTrain}
 use Rattle.trains.specs.declared.FoundTrain.the-variants.{Nothing}
-use Rattle.authorities.proofs.Loops.{Searching, search-start, search-hit, search-miss, search-end}
+use Rattle.lists.proofs.Loops.{Searching, search-start, search-hit, search-miss, search-end}
 use Rattle.trains.proofs.TrainLaws.{train-searches}
 use Rattle.trains.proofs.find_train.Statement.{statement}
 use Rattle.trains.proofs.find_train.Tie as tie

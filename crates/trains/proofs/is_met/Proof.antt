@@ -12,7 +12,7 @@ use Rattle.rules.specs.Board.{noTrain}
 use Rattle.places.specs.Places.{trainsIn}
 use Rattle.places.proofs.Registers.{trains-length}
 use Rattle.trains.specs.Trains.{endPasses, trainPasses}
-use Rattle.authorities.proofs.Loops.{Searching, any-searches, search-start, search-hit, search-miss, search-end}
+use Rattle.lists.proofs.Loops.{Searching, any-searches, search-start, search-hit, search-miss, search-end}
 use Rattle.trains.proofs.TrainLaws.{either-end}
 use Rattle.trains.proofs.is_met.Statement.{statement}
 use Rattle.trains.proofs.is_met.Tie as tie

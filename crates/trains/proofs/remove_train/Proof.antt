@@ -9,7 +9,7 @@ use borrow.Author.Tests.{eq-eqb, ne-eqb}
 use Rattle.rules.specs.Board.{isNotTrain}
 use Rattle.places.specs.Places.{trainsIn}
 use Rattle.places.proofs.Registers.{trains-length}
-use Rattle.authorities.proofs.Loops.{Keeping, keeping-start, keeping-hit, keeping-miss, keeping-end}
+use Rattle.lists.proofs.Loops.{Keeping, keeping-start, keeping-hit, keeping-miss, keeping-end}
 use Rattle.trains.proofs.remove_train.Statement.{statement}
 use Rattle.trains.proofs.remove_train.Tie as tie
 

@@ -4,7 +4,7 @@ use mathlib.Core.Path.{sym}
 use denote.Ref.{now}
 use borrow.Author.Needs.{needs}
 use Rattle.rules.specs.Board.{boardOf}
-use Rattle.plan.proofs.Needs.{unprotected-subset}
+use Rattle.gates.proofs.Needs.{unprotected-subset}
 use Rattle.places.proofs.Registers.{gates-in-use}
 use Rattle.answers.proofs.condition.is_unprotected.Statement.{statement}
 use Rattle.answers.proofs.condition.is_unprotected.Tie as tie

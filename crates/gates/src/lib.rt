@@ -1,10 +1,10 @@
-// The gate with a number, and the gates that limits need.
+// The gates of a plan: the gate with a number, and the gates that limits need.
 ghost use mathlib.Core.Path.{_≡_};
 ghost use Prim.Native.Nat.{_≤_};
 ghost use Rattle.lists.specs.Prefix.{prefix};
 ghost use Rattle.rules.specs.Board.{gateAt, needs};
 ghost use Rattle.places.specs.Places.{gatesIn};
-ghost use Rattle.plan.specs.Needs.{neededOf};
+ghost use Rattle.gates.specs.Needs.{neededOf};
 use rules::Gate;
 use rules::GateNo;
 

@@ -10,12 +10,12 @@ use mathlib.Core.Bool.{Bool, true, false, cond, _||_, true≢false}
 use mathlib.Core.List.{List, [], _∷_, _++_}
 use lib.ListN.{length, drop, getD, set, length-set}
 use lib.Seq.{getD-drop, drop-at, drop-drop, drop-set-lt}
 use Rattle.lists.specs.Search.{any, first, keep, change}
 use Rattle.lists.specs.Prefix.{prefix}
+use Rattle.lists.specs.Places.{Holds}
 use Rattle.lists.proofs.Search.{length-change}
 use Rattle.lists.proofs.Prefix.{any-hit, any-miss, any-end, first-hit, first-miss, length-prefix, prefix-none, stored-last, keep-hit, keep-miss}
 use Rattle.lists.proofs.Prefix.{changedTo, change-start, change-hit, change-miss, change-end}
-use Rattle.authorities.specs.Places.{Holds}
 
 -- the loop is at place i of those in use, or behind the last; the list has 32 places
 pub record Reached {A : Type 0} (l : List A) (count i : ℕ) : Type 0 where

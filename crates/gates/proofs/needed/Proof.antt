@@ -1,4 +1,4 @@
--- `plan::gates::needed` meets its contract. The loop's invariant: the set is that of the needed gates before i. Assumes nothing.
+-- `gates::needed` meets its contract. The loop's invariant: the set is that of the needed gates before i. Assumes nothing.
 use mathlib.Core.Path.{_≡_, sym, ap, _∙_}
 use mathlib.Core.Logic.{⊎-elim}
 use Prim.Native.Nat.{_-_, _≤_}
@@ -8,9 +8,9 @@ use Rattle.portions.proofs.Laws.{setOf-start}
 use Rattle.rules.specs.Board.{needs}
 use Rattle.places.specs.Places.{gatesIn}
 use Rattle.places.proofs.Registers.{gates-length}
-use Rattle.plan.proofs.Needs.{neededTo, needed-next, needed-same, needed-all}
-use Rattle.plan.proofs.gates.needed.Statement.{statement}
-use Rattle.plan.proofs.gates.needed.Tie as tie
+use Rattle.gates.proofs.Needs.{neededTo, needed-next, needed-same, needed-all}
+use Rattle.gates.proofs.needed.Statement.{statement}
+use Rattle.gates.proofs.needed.Tie as tie
 
 abbrev Inv-loop : tie.InvT-loop
 Inv-loop gates count limits set₀ i₀ set i = (i ≤ count) × (set ≡ neededTo (gatesIn gates) count limits i)

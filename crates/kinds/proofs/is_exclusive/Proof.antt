@@ -1,12 +1,12 @@
--- `authorities::is_exclusive` meets its contract: each kind but a TWA is exclusive. Assumes nothing.
+-- `kinds::is_exclusive` meets its contract: each kind but a TWA is exclusive. Assumes nothing.
 use mathlib.Core.Path.{_≡_, refl}
 use mathlib.Core.Bool.{not}
 use borrow.Author.Needs.{needs}
 use Rattle.rules.specs.declared.Kind.{Kind}
 use Rattle.rules.specs.declared.Kind.the-variants.{Lpa, Toa, Twa}
 use Rattle.rules.specs.Board.{exclusive, isTwa}
-use Rattle.authorities.proofs.is_exclusive.Statement.{statement}
-use Rattle.authorities.proofs.is_exclusive.Tie as tie
+use Rattle.kinds.proofs.is_exclusive.Statement.{statement}
+use Rattle.kinds.proofs.is_exclusive.Tie as tie
 
 no-twa : (k : Kind) → not (isTwa k) ≡ exclusive k
 no-twa Lpa = refl

@@ -1,4 +1,4 @@
--- `plan::gates::gate_at` meets its contract. A place in use is as it is in the array, and past those stands no gate. Assumes nothing.
+-- `gates::gate_at` meets its contract. A place in use is as it is in the array, and past those stands no gate. Assumes nothing.
 use native.Mathlib.Omega.{arith}
 use mathlib.Core.Path.{sym, _∙_}
 use denote.Ref.{now}
@@ -8,8 +8,8 @@ use borrow.Author.Needs.{needs}
 use Rattle.lists.specs.Prefix.{prefix}
 use Rattle.rules.specs.Board.{noGate}
 use Rattle.places.specs.Places.{gatesIn}
-use Rattle.plan.proofs.gates.gate_at.Statement.{statement}
-use Rattle.plan.proofs.gates.gate_at.Tie as tie
+use Rattle.gates.proofs.gate_at.Statement.{statement}
+use Rattle.gates.proofs.gate_at.Tie as tie
 
 cast-i : tie.Need-cast-i
 cast-i c = search needs

@@ -1,7 +1,7 @@
--- `plan::gates::is_needed` meets its contract. Assumes nothing.
+-- `gates::is_needed` meets its contract. Assumes nothing.
 use Rattle.rules.specs.Board.{needs}
-use Rattle.plan.proofs.gates.is_needed.Statement.{statement}
-use Rattle.plan.proofs.gates.is_needed.Tie as tie
+use Rattle.gates.proofs.is_needed.Statement.{statement}
+use Rattle.gates.proofs.is_needed.Tie as tie
 
 has-requires : tie.Need-has-requires
 has-requires c κs = tt

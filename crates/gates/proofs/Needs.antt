@@ -18,7 +18,7 @@ use Rattle.rules.specs.declared.Gate.{Gate}
 use Rattle.rules.specs.declared.Authority.{Authority}
 use Rattle.rules.specs.Board.{Board, needs, noGate, gateAt}
 use Rattle.rules.specs.Refusals.{isOpen, unprotected}
-use Rattle.plan.specs.Needs.{isNeeded, neededOf}
+use Rattle.gates.specs.Needs.{isNeeded, neededOf}
 
 -- a gate is in the set where the plan has it and the limits need it
 pub needed-has : (gates : List Gate) (limits g : ℕ) → has g (neededOf gates limits) ≡ (ltb g (length gates) && needs limits (gateAt gates g))
