@@ -124,15 +124,6 @@ has-power p n =
 pub has-single : (p q : ℕ) → q < 64 → has q (1 * 2 ^ p % 2 ^ 64) ≡ eqb q p
 has-single p q l = has-kept 64 q (1 * 2 ^ p) l ∙ has-power q p
 
--- the members of `u64::MAX << f` are the numbers from f on
-pub has-from : (f p : ℕ) → p < 64 → has p ((2 ^ 64 - 1) * 2 ^ f % 2 ^ 64) ≡ leb f p
-has-from f p l =
-    has-kept 64 p ((2 ^ 64 - 1) * 2 ^ f) l ∙ has-up p f (2 ^ 64 - 1)
-    ∙ rw (has-ones 64 (p - f), lt-ltb (p - f) 64 (omega arith), and-true)
-
--- the members of `u64::MAX >> (63 - l)` are the numbers up to l
-pub has-to : (l p : ℕ) → l < 64 → has p ((2 ^ 64 - 1) / 2 ^ (63 - l)) ≡ leb p l
-has-to l p h =
-    has-down p (63 - l) (2 ^ 64 - 1) ∙ has-ones 64 (63 - l + p)
-    ∙ same-test _ _ (λ e. le-leb p l (omega (arith, ltb-true (63 - l + p) 64 e)))
-    (λ e. lt-ltb (63 - l + p) 64 (omega (arith, leb-true p l e)))
+-- the members of `set << f` are those of the set, each with f added
+pub has-shifted : (f p set : ℕ) → p < 64 → has p (set * 2 ^ f % 2 ^ 64) ≡ leb f p && has (p - f) set
+has-shifted f p set l = has-kept 64 p (set * 2 ^ f) l ∙ has-up p f set

@@ -2,7 +2,7 @@
 use mathlib.Core.Path.{_≡_, refl}
 use mathlib.Core.Bool.{true, false}
 use Rattle.lists.specs.Search.{any, first, last, keep, below}
-use Rattle.portions.specs.Sets.{has, setOf, run, insert, remove, shares, subset, union, size, least, greatest}
+use Rattle.portions.specs.Sets.{has, setOf, run, upTo, insert, remove, shares, subset, union, size, least, greatest}
 
 -- all the numbers below 64; the last alone; a run that ends before it starts; runs that go past 63
 all : run 0 63 ≡ 18446744073709551615
@@ -24,6 +24,23 @@ past-the-end = refl
 out-of-range : run 64 99 ≡ 0
 unfolding run setOf
 out-of-range = refl
+
+-- up to 0, to 31, to 63, and past the end
+up-to-0 : upTo 0 ≡ 1
+unfolding upTo run setOf
+up-to-0 = refl
+
+up-to-31 : upTo 31 ≡ 4294967295
+unfolding upTo run setOf
+up-to-31 = refl
+
+up-to-63 : upTo 63 ≡ 18446744073709551615
+unfolding upTo run setOf
+up-to-63 = refl
+
+up-to-99 : upTo 99 ≡ run 0 63
+unfolding upTo run setOf
+up-to-99 = refl
 
 -- 63 is a member, and 99, outside, never is
 last-in : has 63 (run 0 63) ≡ true

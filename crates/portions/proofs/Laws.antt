@@ -93,6 +93,14 @@ in-run f l p e =
     let h : between f l p ≡ true = and-r (ltb p 64) _ (sym (has-run f l p) ∙ e) in
     (leb-true f p (and-l _ _ h), leb-true p l (and-r (leb f p) _ h))
 
+-- with no number below 64 from f to l it is empty
+pub no-run : (f l : ℕ) → ((p : ℕ) → p < 64 → f ≤ p → p ≤ l → ⊥) → 0 ≡ run f l
+unfolding run
+no-run f l out =
+    is-setOf 64 0 (between f l) (pow-pos 64)
+    (λ p h. has-none p ∙ sym (⊎-elim (λ e. absurd (out p h (leb-true f p (and-l _ _ e)) (leb-true p l (and-r (leb f p) _ e)))) (λ e. e)
+    (truth (between f l p))))
+
 -- ---- one member more, one less
 
 -- the set with p in it is a set of numbers below 64

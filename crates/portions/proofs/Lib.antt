@@ -2,4 +2,5 @@
 pub mod Bits
 pub mod Laws
 pub mod Ends
+pub mod Entries
 pub mod Examples

@@ -22,6 +22,10 @@ between first last p = leb first p && leb p last
 unfoldable pub run : ℕ → ℕ → ℕ
 run first last = setOf 64 (between first last)
 
+-- all the numbers up to n, "0 to n and no other" (02, order 3)
+unfoldable pub upTo : ℕ → ℕ
+upTo n = run 0 n
+
 -- the set with p in it; a number from 64 on is left out
 abbrev pub isOrIn : ℕ → ℕ → ℕ → Bool
 isOrIn p set q = eqb q p || has q set

@@ -2,6 +2,10 @@
 ghost use mathlib.Core.Path.{_≡_};
 ghost use Rattle.portions.specs.Sets as Sets;
 
+mod table;
+
+pub use table::up_to;
+
 // p is a member. No number from 64 on is one.
 pub fn has(set: u64, p: u16) -> bool
     ensures { λ r. ⌜ r ≡ Sets.has p set ⌝ }
@@ -16,11 +20,10 @@ pub fn run(first: u16, last: u16) -> u64
     if 63 < first {
         return 0;
     }
-    let from_first = u64::MAX << first;
-    if 63 < last {
-        return from_first;
+    if last < first {
+        return 0;
     }
-    from_first & (u64::MAX >> (63 - last))
+    up_to(last - first) << first
 }
 
 // The two sets share a member.
