@@ -3,10 +3,11 @@
 //!   generate SEED KIND OUTDIR      writes the files plan and calls
 //!   generate SEED busy N OUTDIR    the same, N calls on a busy board
 //!
-//! Kinds: steered, numbers, damaged, short, wild, shift, busy N. The generator
-//! looks at the reference's board, which it uses as a module, to steer towards
-//! calls that are accepted or refused for a wanted reason. The clock goes on by
-//! a few minutes a call, and sometimes by about a week to the term of an LPA.
+//! Kinds: steered, numbers, damaged, short, wild, shift, limits, busy N. The
+//! generator looks at the reference's board, which it uses as a module, to steer
+//! towards calls that are accepted or refused for a wanted reason. The clock goes
+//! on by a few minutes a call, and sometimes by about a week to the term of an
+//! LPA.
 //!
 //! Build: rustc -O generate.rs
 
@@ -1433,6 +1434,96 @@ impl Driver {
     }
 }
 
+/// Limits of every length and from every first portion, and from 0 to every
+/// last, each brought into force and then looked at portion by portion.
+fn limits(mut rng: Rng) -> (Vec<u8>, Vec<u8>) {
+    let plan = Plan::gate_into_each(&mut rng);
+    let mut all: Vec<(u16, u16)> = Vec::new();
+    for number in 0..64 {
+        let first = rng.between(0, 63 - number);
+        all.push((first, first + number));
+        all.push((number, rng.between(number, 63)));
+        all.push((0, number));
+    }
+    for index in (1..all.len()).rev() {
+        let other = rng.below(index + 1);
+        all.swap(index, other);
+    }
+    let mut driver = Driver::new(rng, &plan);
+    let mut list = Vec::new();
+    for gate in 0..64 {
+        driver.add(4, [gate, 0, 0, 0], &mut list);
+    }
+    for (first, last) in all {
+        driver.look_at(first, last, &mut list);
+    }
+    (plan.text(), text_of(&list))
+}
+
+impl Plan {
+    /// P 64, G 64: one gate from outside into each portion, none of kind 4.
+    fn gate_into_each(rng: &mut Rng) -> Plan {
+        let gates = (0..64).map(|to| [OUTSIDE, to, rng.between(1, 3)]).collect();
+        let mut plan = Plan { portions: 64, gates };
+        plan.shuffle(rng);
+        plan
+    }
+}
+
+impl Driver {
+    /// An authority over these limits, on a board with one gate from outside
+    /// into each portion, all gates blocked, and nothing else on it: GRANT with
+    /// one gate open and with none; then, in force, UNBLOCK of every gate, and
+    /// at the ends, beside them and at one more portion a MOVE that names no
+    /// authority and a TOA over this portion only. Leaves the board as it was.
+    fn look_at(&mut self, first: u16, last: u16, list: &mut Vec<[u16; 7]>) {
+        let kind = self.rng.between(1, 3);
+        let officer = self.any_officer();
+        self.add(1, [kind, first, last, officer], list);
+        let authority = self.board.last_number;
+        if kind == 1 {
+            let start = stamp_of(self.board.last_stamp.minute() + NOTICE);
+            self.add(14, [authority, start.day, start.time, 1], list);
+            let other = self.other_officer(officer);
+            self.add_at(start, 9, [authority, officer, other, 0], list);
+        }
+        let officer = self.board.live[0].officer;
+        let some = [first.saturating_sub(1), first, self.rng.between(0, 63), last, (last + 1).min(63)];
+
+        let open = self.rng.pick(&some);
+        let open = self.gate_into(open);
+        self.add(5, [open, 0, 0, 0], list);
+        let early = self.add(6, [authority, officer, 0, 0], list) == 0;
+        self.add(4, [open, 0, 0, 0], list);
+        if !early {
+            self.add(6, [authority, officer, 0, 0], list);
+        }
+
+        for portion in 0..64 {
+            let gate = self.gate_into(portion);
+            if self.add(5, [gate, 0, 0, 0], list) == 0 {
+                self.add(4, [gate, 0, 0, 0], list);
+            }
+        }
+        for portion in some {
+            let train = self.any_train();
+            self.add(12, [train, self.gate_into(portion), 0, 0], list);
+            self.add(1, [2, portion, portion, officer], list);
+            self.add(6, [self.board.last_number, officer, 0, 0], list);
+            let other = self.board.live[1];
+            self.end(&other, list);
+        }
+        let one = self.board.live[0];
+        self.end(&one, list);
+    }
+
+    /// The gate into this portion, if there is one into each.
+    fn gate_into(&self, portion: u16) -> u16 {
+        let into = |gate: &Gate| gate.to == Place::Portion(portion);
+        self.board.gates.iter().position(into).expect("a gate into each portion") as u16
+    }
+}
+
 /// Random numbers, mostly small.
 fn wild(mut rng: Rng) -> (Vec<u8>, Vec<u8>) {
     let plan = Plan::random(&mut rng);
@@ -1731,7 +1822,7 @@ fn seeded(seed: u64, kind: &str) -> Rng {
 }
 
 fn run(arguments: &[String]) -> Result<(), String> {
-    let usage = "usage: generate SEED steered|numbers|damaged|short|wild|shift OUTDIR, or generate SEED busy N OUTDIR";
+    let usage = "usage: generate SEED steered|numbers|damaged|short|wild|shift|limits OUTDIR, or generate SEED busy N OUTDIR";
     let (seed, kind, folder) = match arguments {
         [seed, kind, .., folder] => (seed, kind.as_str(), Path::new(folder)),
         _ => return Err(usage.to_string()),
@@ -1744,6 +1835,7 @@ fn run(arguments: &[String]) -> Result<(), String> {
         ("short", 3) => short(rng),
         ("wild", 3) => wild(rng),
         ("shift", 3) => shift(rng),
+        ("limits", 3) => limits(rng),
         ("busy", 4) => {
             let count = arguments[2].parse().map_err(|_| usage)?;
             return busy(rng, count, folder).map_err(|error| error.to_string());

@@ -1,4 +1,4 @@
-//! The track authority board, read from 01-scope.md and orders 1 and 2 of
+//! The track authority board, read from 01-scope.md and orders 1 to 3 of
 //! 02-change-requests.md and from nothing else.
 //!
 //! A plain program: it reads the files `plan` and `calls` in the working
@@ -110,14 +110,38 @@ pub enum Place {
     Outside,
 }
 
+/// Order 3: "The set "all portions up to n"", "the 64 sets in a constant table,
+/// entry n holding portions 0 to n and no other". A line has four: entries 0 to
+/// 3, 4 to 7, and so on to 60 to 63.
+pub const ALL_UP_TO: [u64; MOST_PORTIONS as usize] = [
+    0x0000_0000_0000_0001, 0x0000_0000_0000_0003, 0x0000_0000_0000_0007, 0x0000_0000_0000_000f,
+    0x0000_0000_0000_001f, 0x0000_0000_0000_003f, 0x0000_0000_0000_007f, 0x0000_0000_0000_00ff,
+    0x0000_0000_0000_01ff, 0x0000_0000_0000_03ff, 0x0000_0000_0000_07ff, 0x0000_0000_0000_0fff,
+    0x0000_0000_0000_1fff, 0x0000_0000_0000_3fff, 0x0000_0000_0000_7fff, 0x0000_0000_0000_ffff,
+    0x0000_0000_0001_ffff, 0x0000_0000_0003_ffff, 0x0000_0000_0007_ffff, 0x0000_0000_000f_ffff,
+    0x0000_0000_001f_ffff, 0x0000_0000_003f_ffff, 0x0000_0000_007f_ffff, 0x0000_0000_00ff_ffff,
+    0x0000_0000_01ff_ffff, 0x0000_0000_03ff_ffff, 0x0000_0000_07ff_ffff, 0x0000_0000_0fff_ffff,
+    0x0000_0000_1fff_ffff, 0x0000_0000_3fff_ffff, 0x0000_0000_7fff_ffff, 0x0000_0000_ffff_ffff,
+    0x0000_0001_ffff_ffff, 0x0000_0003_ffff_ffff, 0x0000_0007_ffff_ffff, 0x0000_000f_ffff_ffff,
+    0x0000_001f_ffff_ffff, 0x0000_003f_ffff_ffff, 0x0000_007f_ffff_ffff, 0x0000_00ff_ffff_ffff,
+    0x0000_01ff_ffff_ffff, 0x0000_03ff_ffff_ffff, 0x0000_07ff_ffff_ffff, 0x0000_0fff_ffff_ffff,
+    0x0000_1fff_ffff_ffff, 0x0000_3fff_ffff_ffff, 0x0000_7fff_ffff_ffff, 0x0000_ffff_ffff_ffff,
+    0x0001_ffff_ffff_ffff, 0x0003_ffff_ffff_ffff, 0x0007_ffff_ffff_ffff, 0x000f_ffff_ffff_ffff,
+    0x001f_ffff_ffff_ffff, 0x003f_ffff_ffff_ffff, 0x007f_ffff_ffff_ffff, 0x00ff_ffff_ffff_ffff,
+    0x01ff_ffff_ffff_ffff, 0x03ff_ffff_ffff_ffff, 0x07ff_ffff_ffff_ffff, 0x0fff_ffff_ffff_ffff,
+    0x1fff_ffff_ffff_ffff, 0x3fff_ffff_ffff_ffff, 0x7fff_ffff_ffff_ffff, 0xffff_ffff_ffff_ffff,
+];
+
 /// A set of portions, bit n for portion n.
 #[derive(Clone, Copy, PartialEq, Eq, Debug)]
 pub struct Portions(pub u64);
 
 impl Portions {
-    /// "a first and a last portion and all between"; first <= last < 64.
+    /// "a first and a last portion and all between"; first <= last < 64. Order
+    /// 3: the entry that holds as many portions, shifted to the first; "Limits
+    /// answer as before."
     pub fn first_to_last(first: u16, last: u16) -> Portions {
-        Portions((u64::MAX << first) & (u64::MAX >> (63 - last)))
+        Portions(ALL_UP_TO[usize::from(last - first)] << first)
     }
 
     pub fn hold(self, place: Place) -> bool {
