@@ -74,6 +74,9 @@ const UP_TO: [u64; 64] = [
 pub fn up_to(n: u16) -> u64
     ensures { λ r. ⌜ r ≡ Sets.upTo n ⌝ }
 {
-    let place = if n < 64 { n } else { 63 };
-    UP_TO[place as usize]
+    let mut place = n as usize;
+    if 63 < place {
+        place = 63;
+    }
+    UP_TO[place]
 }
