@@ -11,10 +11,10 @@ use lib.Pow.{pow-pos}
 use lib.Count.{leadingZeros, trailingZeros, under, leading-top, trailing-le}
 use Rattle.lists.specs.Search.{below}
 use Rattle.lists.proofs.Search.{below-none, first-none, first-below, first-most, last-none, last-below, last-most}
-use Rattle.lists.proofs.Tests.{lt-or-le, truth}
+use Rattle.lists.proofs.Tests.{lt-or-le}
 use Rattle.portions.specs.Sets.{has, isMember, run, least, greatest}
 use Rattle.portions.proofs.Bits.{digit, has-odd, has-half, has-high}
-use Rattle.portions.proofs.Laws.{run-in, in-run}
+use Rattle.portions.proofs.Laws.{run-in, run-out}
 
 -- ---- the least member
 
@@ -51,11 +51,6 @@ unfolding greatest
 greatest-most set = first-most 64 64 64 (isMember set) (le-refl 64) (le-refl 64)
 
 -- ---- the ends of the run from f to l
-
--- a number that is not from f to l is no member
-run-out : (f l p : ℕ) → (f ≤ p → p ≤ l → ⊥) → has p (run f l) ≡ false
-run-out f l p out =
-    ⊎-elim (λ e. let b = in-run f l p e in absurd (out (b .0) (b .1))) (λ e. e) (truth (has p (run f l)))
 
 -- f is the least
 pub least-run : (f l : ℕ) → f ≤ l → l < 64 → least (run f l) ≡ f

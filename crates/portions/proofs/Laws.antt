@@ -93,13 +93,14 @@ in-run f l p e =
     let h : between f l p ≡ true = and-r (ltb p 64) _ (sym (has-run f l p) ∙ e) in
     (leb-true f p (and-l _ _ h), leb-true p l (and-r (leb f p) _ h))
 
+-- a number that is not from f to l is no member
+pub run-out : (f l p : ℕ) → (f ≤ p → p ≤ l → ⊥) → has p (run f l) ≡ false
+run-out f l p out =
+    ⊎-elim (λ e. let b = in-run f l p e in absurd (out (b .0) (b .1))) (λ e. e) (truth (has p (run f l)))
+
 -- with no number below 64 from f to l it is empty
 pub no-run : (f l : ℕ) → ((p : ℕ) → p < 64 → f ≤ p → p ≤ l → ⊥) → 0 ≡ run f l
-unfolding run
-no-run f l out =
-    is-setOf 64 0 (between f l) (pow-pos 64)
-    (λ p h. has-none p ∙ sym (⊎-elim (λ e. absurd (out p h (leb-true f p (and-l _ _ e)) (leb-true p l (and-r (leb f p) _ e)))) (λ e. e)
-    (truth (between f l p))))
+no-run f l out = same-members 64 0 (run f l) (pow-pos 64) (run-lt f l) (λ p h. has-none p ∙ sym (run-out f l p (out p h)))
 
 -- ---- one member more, one less
 

@@ -22,7 +22,7 @@ between first last p = leb first p && leb p last
 unfoldable pub run : ℕ → ℕ → ℕ
 run first last = setOf 64 (between first last)
 
--- all the numbers up to n, "0 to n and no other" (02, order 3)
+-- "all portions up to n": "0 to n and no other" (02, order 3)
 unfoldable pub upTo : ℕ → ℕ
 upTo n = run 0 n
 
