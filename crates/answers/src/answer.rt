@@ -1,10 +1,9 @@
 // The answer to each call: 0, or the lowest refusal whose condition holds.
 ghost use mathlib.Core.Path.{_≡_};
-ghost use Rattle.rules.specs.Refusals.{lowest, requestRefusals, withdrawRefusals, agreeRefusals, blockRefusals, unblockRefusals, grantRefusals, clearRefusals, reoccupyRefusals, handOverRefusals, fulfilRefusals, continueRefusals, own};
+ghost use Rattle.rules.specs.Refusals.{lowest, requestRefusals, withdrawRefusals, blockRefusals, unblockRefusals, grantRefusals, clearRefusals, reoccupyRefusals, handOverRefusals, fulfilRefusals, continueRefusals, own};
 ghost use Rattle.places.specs.Places.{HeadBounds, boardIn};
 use crate::condition::is_full;
 use crate::condition::is_still_needed;
-use crate::decide::decide_agree;
 use crate::decide::decide_clear;
 use crate::decide::decide_continue;
 use crate::decide::decide_fulfil;
@@ -13,6 +12,8 @@ use crate::decide::decide_hand_over;
 use crate::decide::decide_reoccupy;
 use crate::decide::decide_withdraw;
 use crate::terms::answer_term;
+use agreements::answer_agree;
+use agreements::answer_join;
 use authorities::Found;
 use movements::answer_move;
 use movements::answer_passed;
@@ -58,27 +59,6 @@ fn answer_withdraw(
         return NOT_LIVE;
     };
     decide_withdraw(a, officer)
-}
-
-fn answer_agree(
-    head: Head,
-    gates: &[u16; 192],
-    authorities: &[u64; 256],
-    trains: &[u16; 128],
-    toa: AuthorityNo,
-    twa: AuthorityNo,
-    officer: u16,
-) -> u16
-    requires { ⌜ HeadBounds head ⌝ }
-    ensures { λ x. ⌜ x ≡ lowest (agreeRefusals (boardIn head (now (gates .entry)) (now (authorities .entry)) (now (trains .entry))) (toa .0) (twa .0) officer) ⌝ }
-{
-    let Found::Is(x) = authorities::find(authorities, head.live, toa) else {
-        return NOT_LIVE;
-    };
-    let Found::Is(y) = authorities::find(authorities, head.live, twa) else {
-        return NOT_LIVE;
-    };
-    decide_agree(x, y, toa, officer)
 }
 
 fn answer_block(
@@ -363,5 +343,20 @@ pub fn answer_of(
             time,
             length: _,
         } => answer_term(head, gates, authorities, trains, s, authority, day, time),
+        Call::Join {
+            twa,
+            toa,
+            officer,
+            distance,
+        } => answer_join(
+            head,
+            gates,
+            authorities,
+            trains,
+            twa,
+            toa,
+            officer,
+            distance,
+        ),
     }
 }

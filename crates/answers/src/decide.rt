@@ -4,7 +4,7 @@ ghost use mathlib.Core.Bool.{not, _||_, _&&_};
 ghost use mathlib.Core.List.{_∷_, []};
 ghost use lib.Dec.{eqb};
 ghost use Rattle.rules.specs.Board.{inForce, workersOn, isTwa};
-ghost use Rattle.rules.specs.Refusals.{_when_, lowest, notToAgree, unprotected, occupied, occupiedBeside, overlaps, outsideTerm};
+ghost use Rattle.rules.specs.Refusals.{_when_, lowest, unprotected, occupied, occupiedBeside, overlaps, outsideTerm};
 ghost use Rattle.places.specs.Places.{HeadBounds, boardIn};
 use crate::condition::is_occupied;
 use crate::condition::is_occupied_beside;
@@ -34,24 +34,6 @@ pub fn decide_withdraw(a: Authority, officer: u16) -> u16
     }
     if a.officer != officer {
         return OFFICER;
-    }
-    0
-}
-
-// 6, 7 and 8 of AGREE, with the two found.
-pub fn decide_agree(x: Authority, y: Authority, toa: AuthorityNo, officer: u16) -> u16
-    ensures { λ v. ⌜ v ≡ lowest (6 when notToAgree x y ∷ 7 when not (eqb (x .officer) officer) ∷ 8 when eqb (y .agreed .0) (toa .0) ∷ []) ⌝ }
-{
-    let first = x.kind;
-    let second = y.kind;
-    if !(kinds::is_toa(first) & x.in_force & kinds::is_twa(second) & !y.in_force) {
-        return STAGE;
-    }
-    if x.officer != officer {
-        return OFFICER;
-    }
-    if y.agreed.0 == toa.0 {
-        return ALREADY_SO;
     }
     0
 }

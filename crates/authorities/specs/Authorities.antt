@@ -28,5 +28,5 @@ unfoldable pub changeOf : Change → Authority → Authority
 changeOf Granted a = granted a
 changeOf (Site on) a = withSite on a
 changeOf (Officer officer) a = withOfficer officer a
-changeOf (Agreed toa) a = withAgreed toa a
+changeOf (Agreed other) a = withAgreed other a
 changeOf (Term start length) a = withTerm start length a

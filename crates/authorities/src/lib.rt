@@ -11,6 +11,7 @@ ghost use Rattle.rules.specs.Refusals.{clashes, inForceNeeds};
 ghost use Rattle.places.specs.Places.{authoritiesIn};
 ghost use Rattle.authorities.specs.Authorities.{foundIn, isIn, holdsPortion, changeOf};
 use kinds::is_exclusive;
+use kinds::is_toa;
 use kinds::is_twa;
 use places::authority_at;
 use places::put_authority;
@@ -32,7 +33,8 @@ pub enum Change {
     Term(u32, u16),
 }
 
-// Refusal 13: x is in force, another than a and old, and shares a portion with a, and a is no TWA that has x as its agreed TOA.
+// Refusal 13: x is in force, another than a and old, and shares a portion with a, and a rests on no agreement of x's officer: it is no TWA that has
+// agreed the TOA x, and no TOA that has joined the TWA x.
 fn is_clashing(old: AuthorityNo, a: Authority, x: Authority) -> bool
     ensures { λ r. ⌜ r ≡ clashes (old .0) a x ⌝ }
 {
@@ -41,7 +43,7 @@ fn is_clashing(old: AuthorityNo, a: Authority, x: Authority) -> bool
         & (x.number.0 != a.number.0)
         & (x.number.0 != old.0)
         & portions::overlap(a.limits, x.limits)
-        & !(is_twa(kind) & (x.number.0 == a.agreed.0))
+        & !((is_twa(kind) | is_toa(kind)) & (x.number.0 == a.agreed.0))
 }
 
 // The authority with that number.
@@ -148,8 +150,8 @@ fn changed(c: Change, a: Authority) -> Authority
             x.officer = officer;
             x
         }
-        Change::Agreed(toa) => {
-            x.agreed = toa;
+        Change::Agreed(other) => {
+            x.agreed = other;
             x
         }
         Change::Term(start, length) => {

@@ -1,4 +1,4 @@
-// Reading a call off its seven numbers: its number is matched over 1 to 14 and the range beyond, its fields are then matched by kind.
+// Reading a call off its seven numbers: its number is matched over 1 to 15 and the range beyond, its fields are then matched by kind.
 ghost use mathlib.Core.Path.{_≡_};
 ghost use mathlib.Core.Bool.{_&&_};
 ghost use Rattle.rules.specs.Call.{isDay, isTime, minuteOf, inRange, inForm, kindOf, entryOf, named, decoded};
@@ -57,6 +57,7 @@ fn is_in_range(portions: u16, gates: usize, field: Field, value: u16, next: u16)
         Field::Day => is_day(value),
         Field::Time => is_time(value),
         Field::Length => 1 <= value,
+        Field::Distance => true,
     }
 }
 
@@ -148,6 +149,12 @@ fn form_of(call: u16) -> Form
             b: Field::Day,
             c: Field::Time,
             d: Field::Length,
+        },
+        15 => Form {
+            a: Field::Authority,
+            b: Field::Authority,
+            c: Field::Officer,
+            d: Field::Distance,
         },
         _ => Form {
             a: Field::Unused,
@@ -249,6 +256,12 @@ fn name(s: Seven) -> Call
             time: s.c,
             length: s.d,
         },
+        15 => Call::Join {
+            twa: AuthorityNo(s.a),
+            toa: AuthorityNo(s.b),
+            officer: s.c,
+            distance: s.d,
+        },
         _ => Call::NoSuchCall,
     }
 }
@@ -259,7 +272,7 @@ pub fn decode(portions: u16, gates: usize, s: Seven) -> Call
     ensures { λ r. ⌜ r ≡ decoded portions gates s ⌝ }
 {
     let call = s.call;
-    if (call < 1) | (14 < call) {
+    if (call < 1) | (15 < call) {
         return Call::NoSuchCall;
     }
     if !is_stamp(s.day, s.time) {

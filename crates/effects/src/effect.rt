@@ -324,6 +324,23 @@ fn term(
     head
 }
 
+fn join(
+    head: Head,
+    gates: &[u16; 192],
+    authorities: &mut [u64; 256],
+    trains: &mut [u16; 128],
+    twa: AuthorityNo,
+    toa: AuthorityNo,
+    officer: u16,
+    distance: u16,
+) -> Head
+    requires { ⌜ HeadBounds head ⌝ }
+    ensures { λ out. ⌜ EffectPost (registerIn head (now (gates .entry)) (now (authorities .entry)) (now (trains .entry))) (Call.Join twa toa officer distance) (registerIn out (now (gates .entry)) (now (authorities .exit)) (now (trains .exit))) ⌝ }
+{
+    authorities::amend(authorities, head.live, toa, Change::Agreed(twa));
+    head
+}
+
 // Does what the accepted call does, but for its stamp.
 pub fn effect_of(
     head: Head,
@@ -451,6 +468,21 @@ pub fn effect_of(
             day,
             time,
             length,
+        ),
+        Call::Join {
+            twa,
+            toa,
+            officer,
+            distance,
+        } => join(
+            head,
+            gates,
+            authorities,
+            trains,
+            twa,
+            toa,
+            officer,
+            distance,
         ),
     }
 }

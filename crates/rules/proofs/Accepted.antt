@@ -10,7 +10,7 @@ use Rattle.lists.proofs.Tests.{told, not-no}
 use Rattle.lists.proofs.Search.{each-at}
 use Rattle.rules.specs.declared.Seven.{Seven}
 use Rattle.rules.specs.declared.Call.{Call}
-use Rattle.rules.specs.declared.Call.the-variants.{NoSuchCall, BadField, Request, Withdraw, Agree, Block, Unblock, Grant, Clear, Reoccupy, HandOver, Fulfil, Continue, Move, Passed, Term}
+use Rattle.rules.specs.declared.Call.the-variants.{NoSuchCall, BadField, Request, Withdraw, Agree, Block, Unblock, Grant, Clear, Reoccupy, HandOver, Fulfil, Continue, Move, Passed, Term, Join}
 use Rattle.rules.specs.Board.{Board}
 use Rattle.rules.specs.Call.{Entry, isDay, isTime, inRange, calls, noEntry, entryOf, isCall, named, inForm, inRanges}
 use Rattle.rules.specs.Refusals.{_when_, own, conditions, answer}
@@ -35,6 +35,7 @@ Ranges b (Continue old new officerOld officerNew) = Unit {0}
 Ranges b (Move t g n officer) = g .0 < length (b .gates)
 Ranges b (Passed t) = Unit {0}
 Ranges b (Term n day time length) = (isDay day ≡ true) × (isTime time ≡ true)
+Ranges b (Join twa toa officer distance) = Unit {0}
 
 pub record Accepted (b : Board) (s : Seven) (c : Call) : Type 0 where
   pub ranges : Ranges b c
@@ -50,8 +51,8 @@ unfolding entryOf isCall calls inForm inRange
 entry-ranges b s zero c = absurd (false≢true c)
 entry-ranges b s (suc n) c =
     each-at (EntryRanges b s) noEntry calls
-    (λ h. (search (told, leb-true, h), search (told, ltb-true, h)), (λ h. tt, (λ h. tt, (λ h. search (told, ltb-true, h), (λ h. search (told, ltb-true, h), (λ h. tt, (λ h. tt, (λ h. tt, (λ h. tt, (λ h. tt, (λ h. tt, (λ h. search (told, ltb-true, h), (λ h. tt, (λ h. (search (told, h), search (told, h)), tt))))))))))))))
-    n (let l : suc n ≤ 14 = search (told, leb-true, c) in omega arith)
+    (λ h. (search (told, leb-true, h), search (told, ltb-true, h)), (λ h. tt, (λ h. tt, (λ h. search (told, ltb-true, h), (λ h. search (told, ltb-true, h), (λ h. tt, (λ h. tt, (λ h. tt, (λ h. tt, (λ h. tt, (λ h. tt, (λ h. search (told, ltb-true, h), (λ h. tt, (λ h. (search (told, h), search (told, h)), (λ h. tt, tt)))))))))))))))
+    n (let l : suc n ≤ 15 = search (told, leb-true, c) in omega arith)
 
 -- a call with a number that a call has and fields in their ranges
 pub in-ranges : (b : Board) (s : Seven) → isCall (s .call) ≡ true → inRanges (b .portions) (length (b .gates)) s ≡ true → Ranges b (named s)

@@ -1,4 +1,4 @@
--- The ten cases of 01 marked E, and those of 02's order 1, from the rules by computation, in one joint theorem. Assumes nothing.
+-- The ten cases of 01 marked E, and those of 02's orders 1 and 4, from the rules by computation, in one joint theorem. Assumes nothing.
 use Prim.Native.Nat.{ℕ}
 use mathlib.Core.Path.{_≡_, refl}
 use mathlib.Core.List.{List, [], _∷_, _++_}
@@ -54,6 +54,12 @@ abbrev pub onTerm : ℕ → ℕ → ℕ → List Seven → List ℕ
 onTerm day time length calls =
     answers (Plan.openBoard planText) (at 600 1 1 1 1 7 ∷ at 600 4 1 0 0 0 ∷ at 600 14 1 day time length ∷ calls)
 
+-- E10's two, a TWA in force over portion 1 and a pending TOA over 0 to 2, with a JOIN at that distance between: the answers of these six calls, after
+-- the four BLOCKs, and of the calls that follow
+abbrev pub onJoin : ℕ → List Seven → List ℕ
+onJoin distance calls =
+    onBlocked (at 1 1 3 1 1 7 ∷ at 1 6 1 7 0 0 ∷ at 1 1 2 0 2 8 ∷ at 1 15 1 2 7 distance ∷ calls)
+
 pub record Cases : Type 0 where
   -- E1 to E6: the whole output for six calls, byte for byte
   pub journal : printed (Plan.openBoard planText)
@@ -81,7 +87,15 @@ pub record Cases : Type 0 where
   pub start : onTerm 7 2330 60 (on 7 2329 6 1 7 0 0 ∷ on 7 2330 6 1 7 0 0 ∷ []) ≡ 0 ∷ 0 ∷ 0 ∷ 22 ∷ 0 ∷ []
   pub end : onTerm 7 2330 60 (on 8 29 6 1 7 0 0 ∷ []) ≡ 0 ∷ 0 ∷ 0 ∷ 0 ∷ []
   pub over : onTerm 7 2330 60 (on 8 30 6 1 7 0 0 ∷ []) ≡ 0 ∷ 0 ∷ 0 ∷ 22 ∷ []
+  -- order 4: E10 with a JOIN at 500 and at 1000 metres: 0. At 499 and at 1001 JOIN is 24 and leaves nothing: 13
+  pub nearest : onJoin 500 (at 1 6 2 8 0 0 ∷ []) ≡ 0 ∷ 0 ∷ 0 ∷ 0 ∷ 0 ∷ 0 ∷ 0 ∷ 0 ∷ 0 ∷ []
+  pub farthest : onJoin 1000 (at 1 6 2 8 0 0 ∷ []) ≡ 0 ∷ 0 ∷ 0 ∷ 0 ∷ 0 ∷ 0 ∷ 0 ∷ 0 ∷ 0 ∷ []
+  pub too-near : onJoin 499 (at 1 6 2 8 0 0 ∷ []) ≡ 0 ∷ 0 ∷ 0 ∷ 0 ∷ 0 ∷ 0 ∷ 0 ∷ 24 ∷ 13 ∷ []
+  pub too-far : onJoin 1001 (at 1 6 2 8 0 0 ∷ []) ≡ 0 ∷ 0 ∷ 0 ∷ 0 ∷ 0 ∷ 0 ∷ 0 ∷ 24 ∷ 13 ∷ []
+  -- order 4: the TWA is cleared and fulfilled and another over the same portion comes into force: the JOIN names the first, so 13
+  pub another : onJoin 500 (at 1 7 1 7 0 0 ∷ at 1 10 1 7 7 0 ∷ at 1 1 3 1 1 9 ∷ at 1 6 3 9 0 0 ∷ at 1 6 2 8 0 0 ∷ [])
+      ≡ 0 ∷ 0 ∷ 0 ∷ 0 ∷ 0 ∷ 0 ∷ 0 ∷ 0 ∷ 0 ∷ 0 ∷ 0 ∷ 0 ∷ 13 ∷ []
 
 pub cases : Cases
-unfolding planText printed answers bytes Search.any Search.first Search.keep Search.change Search.below Column.digitsIn Column.digits Column.column Line.line Reading.sameText Reading.valueFrom Reading.isColumn Reading.readColumn Reading.firstColumn Reading.rowOf Sets.has Sets.setOf Sets.run Sets.insert Sets.remove Sets.shares Board.opened Board.closed Board.live Board.authority Board.touches Board.needs Call.isDay Call.isTime Call.minuteOf Call.inRange Call.inRanges Call.calls Call.entryOf Call.isCall Call.named Call.inForm Refusals.lowest Refusals.early Refusals.notLive Refusals.notOfficer Refusals.notToAgree Refusals.full Refusals.isOpen Refusals.unprotected Refusals.occupied Refusals.clashes Refusals.overlaps Refusals.inForceNeeds Refusals.stillNeeded Refusals.minute Refusals.notPendingLpa Refusals.tooSoon Refusals.inTerm Refusals.outsideTerm Refusals.own Refusals.conditions Refusals.answer Effects.effect Plan.planLine Plan.planNumber Plan.isHead Plan.isPlace Plan.isGate Plan.gateOn Plan.areGates Plan.gatesOn Plan.isPlan Plan.openBoard Journal.journalLine Journal.lineAfter Step.after Step.allotted
-cases = record { journal = refl; e7 = refl; e8 = refl; e9 = refl; e10 = refl; lpa = refl; notice = refl; week = refl; start = refl; end = refl; over = refl }
+unfolding planText printed answers bytes Search.any Search.first Search.keep Search.change Search.below Column.digitsIn Column.digits Column.column Line.line Reading.sameText Reading.valueFrom Reading.isColumn Reading.readColumn Reading.firstColumn Reading.rowOf Sets.has Sets.setOf Sets.run Sets.insert Sets.remove Sets.shares Board.opened Board.closed Board.live Board.authority Board.touches Board.needs Call.isDay Call.isTime Call.minuteOf Call.inRange Call.inRanges Call.calls Call.entryOf Call.isCall Call.named Call.inForm Refusals.lowest Refusals.early Refusals.notLive Refusals.notOfficer Refusals.notToAgree Refusals.notToJoin Refusals.restsOn Refusals.notAtDistance Refusals.full Refusals.isOpen Refusals.unprotected Refusals.occupied Refusals.clashes Refusals.overlaps Refusals.inForceNeeds Refusals.stillNeeded Refusals.minute Refusals.notPendingLpa Refusals.tooSoon Refusals.inTerm Refusals.outsideTerm Refusals.own Refusals.conditions Refusals.answer Effects.effect Plan.planLine Plan.planNumber Plan.isHead Plan.isPlace Plan.isGate Plan.gateOn Plan.areGates Plan.gatesOn Plan.isPlan Plan.openBoard Journal.journalLine Journal.lineAfter Step.after Step.allotted
+cases = record { journal = refl; e7 = refl; e8 = refl; e9 = refl; e10 = refl; lpa = refl; notice = refl; week = refl; start = refl; end = refl; over = refl; nearest = refl; farthest = refl; too-near = refl; too-far = refl; another = refl }

@@ -10,9 +10,9 @@ use Rattle.rules.specs.declared.Kind.{Kind}
 use Rattle.rules.specs.declared.Kind.the-variants.{Twa}
 use Rattle.rules.specs.declared.Gate.{Gate}
 use Rattle.rules.specs.Board.{gateAt, exclusive}
-use Rattle.rules.specs.Reckoning.{Reckoned, Position, Reckoning, start, put, withAuthorities}
+use Rattle.rules.specs.Reckoning.{Reckoned, Position, Reckoning, start, put}
 use Rattle.rules.specs.Claim.{In, Forced, Agreed, Apart, Piloted, Untouched, Protected, Safe}
-use Rattle.rules.proofs.Follows.{put-all, put-other}
+use Rattle.rules.proofs.Follows.{put-all, put-other, reckonedAs}
 
 -- ---- less in force
 
@@ -22,7 +22,9 @@ pub record Quieter (x′ x : Reckoned) : Type 0 where
   pub kind : x′ .kind ≡ x .kind
   pub first : x′ .first ≡ x .first
   pub last : x′ .last ≡ x .last
+  pub since : x′ .since ≡ x .since
   pub agreed : x′ .agreed ≡ x .agreed
+  pub joined : x′ .joined ≡ x .joined
   pub site : x′ .workersOn ≡ true → x .workersOn ≡ true
 
 -- y′ touches no more than y
@@ -33,7 +35,7 @@ pub record Smaller (y′ y : Position) : Type 0 where
   pub rear : (y′ .rear ≡ y .rear) ⊎ (y′ .rear ≡ y .head)
 
 pub quiet-same : (x : Reckoned) → x .inForce ≡ true → Quieter x x
-quiet-same x h = record { force = h; kind = refl; first = refl; last = refl; agreed = refl; site = λ w. w }
+quiet-same x h = record { force = h; kind = refl; first = refl; last = refl; since = refl; agreed = refl; joined = refl; site = λ w. w }
 
 pub small-same : (y : Position) → y .onBoard ≡ true → Smaller y y
 small-same y h = record { onBoard = h; head = refl; under = refl; rear = inl refl }
@@ -42,7 +44,10 @@ in-along : {x′ x : Reckoned} {p′ p : ℕ} → Quieter x′ x → p′ ≡ p 
 in-along q e i = omega arith
 
 agreed-back : {x′ x y′ y : Reckoned} {n : ℕ} → Quieter x′ x → Quieter y′ y → Agreed x n y → Agreed x′ n y′
-agreed-back q q′ a = (q .kind ∙ a .0, q′ .kind ∙ a .1, q′ .agreed ∙ a .2)
+agreed-back q q′ a = (
+  omega (arith, q .since, q′ .since, a .0),
+  ⊎-map (λ w. (q .kind ∙ w .0, q′ .kind ∙ w .1, q′ .agreed ∙ w .2)) (λ w. (q .kind ∙ w .0, q′ .kind ∙ w .1, q′ .joined ∙ w .2)) (a .1),
+)
 
 module _ (A′ A : ℕ → Reckoned) (q : (n : ℕ) → Forced A′ n → Quieter (A′ n) (A n)) where
   apart-less : Apart A → Apart A′
@@ -83,9 +88,9 @@ safe-less gates r′ r q w h S = record {
 -- one authority is reckoned otherwise, with no more claim than it had
 pub safe-quieter : (gates : List Gate) (r : Reckoning) → Safe gates r → (requests n : ℕ) (x : Reckoned)
     → (x .inForce ≡ true → Quieter x (r .authority n))
-    → Safe gates (record { requests = requests; authority = put n x (r .authority); train = r .train; blocked = r .blocked })
+    → Safe gates (reckonedAs r requests (r .grants) n x)
 safe-quieter gates r S requests n x h =
-    safe-less gates (record { requests = requests; authority = put n x (r .authority); train = r .train; blocked = r .blocked }) r
+    safe-less gates (reckonedAs r requests (r .grants) n x) r
     (put-all (λ (m : ℕ) (y : Reckoned). y .inForce ≡ true → Quieter y (r .authority m)) n x (r .authority) h (λ m ne f. quiet-same (r .authority m) f))
     (λ t on. small-same (r .train t) on) (λ g k. k) S
 
@@ -129,8 +134,8 @@ module _ (gates : List Gate) (r : Reckoning) (n : ℕ) (x : Reckoned) (N : New g
   unfolding Both
   apart-put m k p = put-all (λ (m : ℕ) (u : Reckoned). (k : ℕ) → Both p m k u (put n x A k)) n x A (both-new p) (both-old p) m k
 
-  pub safe-put : Safe gates (withAuthorities (put n x A) r)
-  safe-put = record {
+  pub safe-put : (grants : ℕ) → Safe gates (reckonedAs r (r .requests) grants n x)
+  safe-put grants = record {
     apart = apart-put;
     piloted =
         λ t m on.

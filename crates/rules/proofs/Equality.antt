@@ -5,10 +5,10 @@ use Rattle.rules.specs.declared.Authority.{Authority}
 use Rattle.rules.specs.declared.Kind.{Kind}
 use Rattle.rules.specs.declared.Kind.the-variants.{Lpa, Toa, Twa}
 use Rattle.rules.specs.Call.{kindOf}
-use Rattle.rules.specs.Board.{Board, kindNo, isTwa, SameAuthority, EachIn, Same}
+use Rattle.rules.specs.Board.{Board, kindNo, isToa, isTwa, SameAuthority, EachIn, Same}
 
 same-authority : (a : Authority) → SameAuthority a a
-same-authority a = record { number = refl; kind = refl; limits = refl; officer = refl; stage = refl; site = refl; agreed = λ t f. refl; start = refl; length = refl }
+same-authority a = record { number = refl; kind = refl; limits = refl; officer = refl; stage = refl; site = refl; agreed = λ t f. refl; joined = λ t f. refl; start = refl; length = refl }
 
 pub same-refl : (b : Board) → Same b b
 same-refl b = record {
@@ -38,6 +38,7 @@ then-authority x y z s t = record {
   stage = s .stage ∙ t .stage;
   site = s .site ∙ t .site;
   agreed = λ w f. s .agreed w f ∙ t .agreed (ap isTwa (sym (s .kind)) ∙ w) (sym (s .stage) ∙ f);
+  joined = λ w f. s .joined w f ∙ t .joined (ap isToa (sym (s .kind)) ∙ w) (sym (s .stage) ∙ f);
   start = s .start ∙ t .start;
   length = s .length ∙ t .length;
 }

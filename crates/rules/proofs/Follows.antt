@@ -1,5 +1,6 @@
 -- How a board follows the reckoning of the calls that led to it, and what keeps it so. Assumes nothing.
 use Prim.Native.Nat.{ℕ, _≤_, _<_}
+use native.Mathlib.Omega.{arith}
 use native.Mathlib.Decide.{ℕ-discrete}
 use mathlib.Core.Path.{_≡_, refl, sym, ap, subst, subst₂, _∙_}
 use mathlib.Core.Bool.{true, false, not, false≢true}
@@ -12,10 +13,11 @@ use Rattle.lists.proofs.Distinct.{Taken, taken-change, taken-keep}
 use Rattle.portions.specs.Sets.{has}
 use Rattle.rules.specs.declared.Authority.{Authority}
 use Rattle.rules.specs.declared.Train.{Train}
-use Rattle.rules.specs.declared.Kind.the-variants.{Toa}
+use Rattle.rules.specs.declared.Kind.{Kind}
+use Rattle.rules.specs.declared.Kind.the-variants.{Lpa, Toa, Twa}
 use Rattle.rules.specs.Board.{Board, noAuthority, noTrain, inForce, workersOn, authorityNo, trainNo, isAuthority, isTrain, isNotAuthority, isNotTrain, live, authority, onBoard, train, withAuthorities, withTrains, amended, ended, moved, gone}
 use Rattle.rules.specs.Reckoning as Reckoning
-use Rattle.rules.specs.Reckoning.{Reckoned, Position, put, asForced}
+use Rattle.rules.specs.Reckoning.{Reckoned, Position, put, asEnded}
 use Rattle.rules.specs.Claim.{In, Forced}
 
 -- ---- a map with one value put
@@ -49,7 +51,8 @@ pub record Held (requests : ℕ) (x : Reckoned) (a : Authority) : Type 0 where
   pub last : x .last < 64
   pub force : x .inForce ≡ inForce a
   pub site : inForce a ≡ true → x .workersOn ≡ workersOn a
-  pub agreed : (a .agreed .0 ≡ 0 → ⊥) → x .agreed ≡ a .agreed .0
+  pub agreed : a .kind ≡ Twa → (a .agreed .0 ≡ 0 → ⊥) → x .agreed ≡ a .agreed .0
+  pub joined : a .kind ≡ Toa → (a .agreed .0 ≡ 0 → ⊥) → x .joined ≡ a .agreed .0
 
 -- a train on the board is as it is reckoned; one that is with 0 may be reckoned under an authority that is no longer in force
 pub record Placed (y : Position) (t : Train) : Type 0 where
@@ -61,12 +64,22 @@ pub record Placed (y : Position) (t : Train) : Type 0 where
 abbrev pub AllHeld : ℕ → (ℕ → Reckoned) → List Authority → Type 0
 AllHeld requests A xs = (a : Authority) → Member a xs → Held requests (A (authorityNo a)) a
 
--- the TOA that an authority has agreed is one
-abbrev pub IsToa : ℕ → (ℕ → Reckoned) → ℕ → Type 0
-IsToa requests A n = (n ≡ 0 → ⊥) → (A n .kind ≡ Toa) × (n ≤ requests)
+-- the kind whose officer's agreement an authority may rest on: a TWA on a TOA's, by AGREE, a TOA on a TWA's, by JOIN
+abbrev pub giver : Kind → Kind
+giver Lpa = Lpa
+giver Toa = Twa
+giver Twa = Toa
 
-abbrev pub AllToa : ℕ → (ℕ → Reckoned) → List Authority → Type 0
-AllToa requests A xs = (a : Authority) → Member a xs → IsToa requests A (a .agreed .0)
+-- the number n that an authority of that kind records is one of the giver's kind
+abbrev pub Rests : ℕ → (ℕ → Reckoned) → Kind → ℕ → Type 0
+Rests requests A kind n = (n ≡ 0 → ⊥) → (A n .kind ≡ giver kind) × (n ≤ requests)
+
+abbrev pub AllRest : ℕ → (ℕ → Reckoned) → List Authority → Type 0
+AllRest requests A xs = (a : Authority) → Member a xs → Rests requests A (a .kind) (a .agreed .0)
+
+-- each in force came into force no later than the last that did
+abbrev pub Since : ℕ → (ℕ → Reckoned) → Type 0
+Since grants A = (n : ℕ) → Forced A n → A n .since ≤ grants
 
 abbrev pub AllPlaced : (ℕ → Position) → List Train → Type 0
 AllPlaced T ts = (t : Train) → Member t ts → Placed (T (trainNo t)) t
@@ -75,7 +88,8 @@ pub record Follows (b : Board) (r : Reckoning.Reckoning) : Type 0 where
   pub requests : b .last ≡ r .requests
   pub portions : b .portions ≤ 64
   pub held : AllHeld (r .requests) (r .authority) (b .authorities)
-  pub toa : AllToa (r .requests) (r .authority) (b .authorities)
+  pub rests : AllRest (r .requests) (r .authority) (b .authorities)
+  pub since : Since (r .grants) (r .authority)
   pub there : (n : ℕ) → Forced (r .authority) n → Taken authorityNo (b .authorities) n
   pub placed : AllPlaced (r .train) (b .trains)
   pub runs : (n : ℕ) → r .train n .onBoard ≡ true → Taken trainNo (b .trains) n
@@ -142,31 +156,40 @@ placed-moved n g same y T ts new old =
 
 -- ---- the board still follows
 
+-- authority n reckoned as x, with so many REQUESTs and comings into force
+abbrev pub reckonedAs : Reckoning.Reckoning → ℕ → ℕ → ℕ → Reckoned → Reckoning.Reckoning
+reckonedAs r requests grants n x = record { requests = requests; grants = grants; authority = put n x (r .authority); train = r .train; blocked = r .blocked }
+
 module _ (b : Board) (r : Reckoning.Reckoning) (F : Follows b r) where
-  -- the kind of each is as it was, so an agreed TOA still is one
-  toa-put : (n : ℕ) (x : Reckoned) (xs : List Authority) → x .kind ≡ r .authority n .kind
-      → AllToa (r .requests) (r .authority) xs → AllToa (r .requests) (put n x (r .authority)) xs
-  toa-put n x xs e h a m z = (
+  -- the kind of each is as it was, so an agreement is still of the giver's kind
+  rests-put : (n : ℕ) (x : Reckoned) (xs : List Authority) → x .kind ≡ r .authority n .kind
+      → AllRest (r .requests) (r .authority) xs → AllRest (r .requests) (put n x (r .authority)) xs
+  rests-put n x xs e h a m z = (
     put-all (λ (m : ℕ) (y : Reckoned). y .kind ≡ r .authority m .kind) n x (r .authority) e (λ m ne. refl) (a .agreed .0) ∙ h a m z .0,
     h a m z .1,
   )
 
-  -- one authority changed, and reckoned as x
-  pub follows-amended : (n : ℕ) (g : Authority → Authority) (x : Reckoned)
+  -- one authority changed, and reckoned as x; after it the last to come into force has the number `grants`
+  pub follows-amended : (n : ℕ) (g : Authority → Authority) (x : Reckoned) (grants : ℕ)
       → ((a : Authority) → authorityNo (g a) ≡ authorityNo a)
       → x .kind ≡ r .authority n .kind
       → ((a : Authority) → Held (r .requests) (r .authority n) a → Held (r .requests) x (g a))
-      → ((a : Authority) → Member a (b .authorities) → IsToa (r .requests) (r .authority) (g a .agreed .0))
+      → ((a : Authority) → Member a (b .authorities) → authorityNo a ≡ n → Rests (r .requests) (r .authority) (g a .kind) (g a .agreed .0))
       → (x .inForce ≡ true → Taken authorityNo (b .authorities) n)
-      → Follows (withAuthorities (amended n g (b .authorities)) b) (Reckoning.withAuthorities (put n x (r .authority)) r)
-  follows-amended n g x same kind held toa there = record {
+      → r .grants ≤ grants
+      → (x .inForce ≡ true → x .since ≤ grants)
+      → Follows (withAuthorities (amended n g (b .authorities)) b) (reckonedAs r (r .requests) grants n x)
+  follows-amended n g x grants same kind held rests there later since = record {
     requests = F .requests;
     portions = F .portions;
     held = held-amended n g same (r .requests) x (r .authority) (b .authorities) held (F .held);
-    toa =
-        toa-put n x (amended n g (b .authorities)) kind
-        (change-each (λ (a : Authority). IsToa (r .requests) (r .authority) (a .agreed .0)) (isAuthority n) g (b .authorities)
-        (λ a m e. F .toa a m) (λ a m e. toa a m));
+    rests =
+        rests-put n x (amended n g (b .authorities)) kind
+        (change-each (λ (a : Authority). Rests (r .requests) (r .authority) (a .kind) (a .agreed .0)) (isAuthority n) g (b .authorities)
+        (λ a m e. F .rests a m) (λ a m e. rests a m (eqb-true (authorityNo a) n e)));
+    since =
+        put-all (λ (m : ℕ) (y : Reckoned). y .inForce ≡ true → y .since ≤ grants) n x (r .authority) since
+        (λ m ne f. omega (arith, F .since m f));
     there =
         λ m f. taken-change authorityNo (isAuthority n) g same (b .authorities) m
         (put-all (λ (m : ℕ) (y : Reckoned). y .inForce ≡ true → Taken authorityNo (b .authorities) m) n x (r .authority) there (λ m ne f. F .there m f) m f);
@@ -177,20 +200,22 @@ module _ (b : Board) (r : Reckoning.Reckoning) (F : Follows b r) where
 
   -- one authority changed in what isn't reckoned
   pub follows-unreckoned : (n : ℕ) (g : Authority → Authority) → ((a : Authority) → authorityNo (g a) ≡ authorityNo a)
+      → ((a : Authority) → g a .kind ≡ a .kind)
       → ((a : Authority) → g a .agreed .0 ≡ a .agreed .0)
       → ((a : Authority) (x : Reckoned) → Held (r .requests) x a → Held (r .requests) x (g a))
       → Follows (withAuthorities (amended n g (b .authorities)) b) r
-  follows-unreckoned n g same agreed held = record {
+  follows-unreckoned n g same kind agreed held = record {
     requests = F .requests;
     portions = F .portions;
     held =
         change-each (λ (a : Authority). Held (r .requests) (r .authority (authorityNo a)) a) (isAuthority n) g (b .authorities)
         (λ a m e. F .held a m)
         (λ a m e. subst (λ (k : ℕ). Held (r .requests) (r .authority k) (g a)) (sym (same a)) (held a (r .authority (authorityNo a)) (F .held a m)));
-    toa =
-        change-each (λ (a : Authority). IsToa (r .requests) (r .authority) (a .agreed .0)) (isAuthority n) g (b .authorities)
-        (λ a m e. F .toa a m)
-        (λ a m e. subst (IsToa (r .requests) (r .authority)) (sym (agreed a)) (F .toa a m));
+    rests =
+        change-each (λ (a : Authority). Rests (r .requests) (r .authority) (a .kind) (a .agreed .0)) (isAuthority n) g (b .authorities)
+        (λ a m e. F .rests a m)
+        (λ a m e. subst₂ (Rests (r .requests) (r .authority)) (sym (kind a)) (sym (agreed a)) (F .rests a m));
+    since = F .since;
     there = λ m f. taken-change authorityNo (isAuthority n) g same (b .authorities) m (F .there m f);
     placed = F .placed;
     runs = F .runs;
@@ -199,18 +224,21 @@ module _ (b : Board) (r : Reckoning.Reckoning) (F : Follows b r) where
 
   -- one authority ended
   pub follows-ended : (n : ℕ)
-      → Follows (withAuthorities (ended n (b .authorities)) b) (Reckoning.withAuthorities (put n (asForced false (r .authority n)) (r .authority)) r)
+      → Follows (withAuthorities (ended n (b .authorities)) b) (Reckoning.withAuthorities (put n (asEnded (r .authority n)) (r .authority)) r)
   follows-ended n = record {
     requests = F .requests;
     portions = F .portions;
     held =
         λ a m.
         let k = ended-member n (b .authorities) a m in
-        subst (λ (y : Reckoned). Held (r .requests) y a) (sym (put-other n (asForced false (r .authority n)) (r .authority) (authorityNo a) (k .1)))
+        subst (λ (y : Reckoned). Held (r .requests) y a) (sym (put-other n (asEnded (r .authority n)) (r .authority) (authorityNo a) (k .1)))
         (F .held a (k .0));
-    toa = toa-put n (asForced false (r .authority n)) (ended n (b .authorities)) refl (λ a m. F .toa a (ended-member n (b .authorities) a m .0));
+    rests = rests-put n (asEnded (r .authority n)) (ended n (b .authorities)) refl (λ a m. F .rests a (ended-member n (b .authorities) a m .0));
+    since =
+        put-all (λ (m : ℕ) (y : Reckoned). y .inForce ≡ true → y .since ≤ r .grants) n (asEnded (r .authority n)) (r .authority)
+        (λ f. absurd (false≢true f)) (λ m ne f. F .since m f);
     there =
-        put-all (λ (m : ℕ) (y : Reckoned). y .inForce ≡ true → Taken authorityNo (ended n (b .authorities)) m) n (asForced false (r .authority n)) (r .authority)
+        put-all (λ (m : ℕ) (y : Reckoned). y .inForce ≡ true → Taken authorityNo (ended n (b .authorities)) m) n (asEnded (r .authority n)) (r .authority)
         (λ f. absurd (false≢true f)) (λ m ne f. there-ended n (b .authorities) m ne (F .there m f));
     placed = F .placed;
     runs = F .runs;
@@ -224,7 +252,8 @@ module _ (b : Board) (r : Reckoning.Reckoning) (F : Follows b r) where
     requests = F .requests;
     portions = F .portions;
     held = F .held;
-    toa = F .toa;
+    rests = F .rests;
+    since = F .since;
     there = F .there;
     placed = p;
     runs = q;

@@ -1,43 +1,37 @@
 -- Demand 3, call by call: the calls that put an authority in force or its workers on (GRANT, REOCCUPY, CONTINUE), by what 11, 12 and 13
 -- tell. Assumes nothing.
-use Prim.Native.Nat.{ℕ, _<_}
+use Prim.Native.Nat.{ℕ, suc, _<_}
 use native.Mathlib.Omega.{arith}
 use mathlib.Core.Path.{_≡_, refl, sym, ap, subst, _∙_}
-use mathlib.Core.Logic.{_⊎_, inl, ⊎-elim}
+use mathlib.Core.Logic.{_⊎_, inl, ⊎-elim, ⊎-map}
 use mathlib.Core.Bool.{Bool, true, false, cond, not, _&&_, _||_, false≢true}
 use lib.ListN.{length}
 use lib.Dec.{eqb, leb}
 use borrow.Author.Tests.{eqb-true, eqb-false, eq-eqb, ne-eqb, le-leb}
 use Rattle.lists.specs.Search.{below, change}
-use Rattle.lists.proofs.Tests.{truth, clash, told, shown, and-i, and-no-r, or-yes-l, or-yes-r, not-no}
+use Rattle.lists.proofs.Tests.{truth, clash, told, shown, and-i, and-no-r, or-cases, or-yes-l, or-yes-r, not-no}
 use Rattle.lists.proofs.Search.{Member, any-no, below-has, change-each}
 use Rattle.lists.proofs.Distinct.{taken-change}
 use Rattle.portions.specs.Sets.{has, shares}
 use Rattle.portions.proofs.Laws.{shares-some}
 use Rattle.rules.specs.declared.AuthorityNo.{AuthorityNo}
-use Rattle.rules.specs.declared.Kind.{Kind}
-use Rattle.rules.specs.declared.Kind.the-variants.{Lpa, Toa, Twa}
+use Rattle.rules.specs.declared.Kind.the-variants.{Twa}
 use Rattle.rules.specs.declared.Authority.{Authority}
 use Rattle.rules.specs.declared.Train.{Train}
 use Rattle.rules.specs.declared.Seven.{Seven}
 use Rattle.rules.specs.declared.Call.the-variants.{Grant, Reoccupy, Continue}
-use Rattle.rules.specs.Board.{Board, gateAt, exclusive, isTwa, inForce, authorityNo, trainNo, live, authority, touches, needs, withAuthorities, withTrains, ended}
+use Rattle.rules.specs.Board.{Board, gateAt, exclusive, isToa, isTwa, inForce, authorityNo, trainNo, live, authority, touches, needs, withAuthorities, withTrains, ended}
 use Rattle.rules.specs.Call.{between, authorityOf}
-use Rattle.rules.specs.Refusals.{isOpen, unprotected, occupied, inTheWay, occupiedBeside, clashes, overlaps, own}
+use Rattle.rules.specs.Refusals.{isOpen, unprotected, occupied, inTheWay, occupiedBeside, restsOn, clashes, overlaps, own}
 use Rattle.rules.specs.Effects.{granted, withSite, withAuthority, isWith, continuedWith, continued, effect}
 use Rattle.rules.specs.Reckoning as Reckoning
-use Rattle.rules.specs.Reckoning.{Reckoned, Position, put, asForced, asSited, asContinued, reckon}
+use Rattle.rules.specs.Reckoning.{Reckoned, Position, put, asForced, asEnded, asSited, asContinued, reckon}
 use Rattle.rules.specs.Claim.{In, Forced, Agreed, Safe}
 use Rattle.rules.proofs.Answers.{conditionAt}
 use Rattle.rules.proofs.Accepted.{Accepted}
-use Rattle.rules.proofs.Follows.{put-other, put-all, Held, Placed, Follows, authority-there, there-ended, follows-amended, follows-ended, follows-trains}
-use Rattle.rules.proofs.Claims.{safe-put, safe-quieter}
-use Rattle.rules.proofs.Recording.{Keeps, here, there, is-live, held-there, held-anew, held-sited}
-
-pub twa-kind : (k : Kind) → isTwa k ≡ true → k ≡ Twa
-twa-kind Lpa e = absurd (false≢true e)
-twa-kind Toa e = absurd (false≢true e)
-twa-kind Twa e = refl
+use Rattle.rules.proofs.Follows.{put-other, put-all, Held, Placed, giver, Follows, authority-there, there-ended, follows-amended, follows-ended, follows-trains}
+use Rattle.rules.proofs.Claims.{New, safe-put, safe-quieter}
+use Rattle.rules.proofs.Recording.{Keeps, toa-kind, twa-kind, here, there, is-live, held-there, held-anew, held-sited}
 
 -- the train that a reckoned number stands for
 pub placed-there : (b : Board) (r : Reckoning.Reckoning) → Follows b r → (t : ℕ) → r .train t .onBoard ≡ true
@@ -58,10 +52,10 @@ module _ (b : Board) (r : Reckoning.Reckoning) (F : Follows b r) (n : ℕ) (l : 
   h : Held (r .requests) x a
   h = here b r F n l
 
-  -- 13: another in force shares a portion only if n is a TWA and the other the TOA that it has agreed
+  -- 13: another in force shares a portion only if n rests on the agreement of its officer; it came into force earlier
   new-apart : (old : ℕ) → overlaps b old a ≡ false → (m p : ℕ) → (m ≡ n → ⊥) → (m ≡ old → ⊥) → Forced (r .authority) m
-      → In (r .authority m) p → In x p → Agreed (r .authority m) m (asForced true x)
-  unfolding overlaps clashes
+      → In (r .authority m) p → In x p → Agreed (r .authority m) m (asForced (suc (r .grants)) x)
+  unfolding overlaps clashes restsOn
   new-apart old fails m p ne nold f im ip =
       let (o, mo, e, k) = held-there b r F m f in
       let none : clashes old a o ≡ false = any-no (clashes old a) (b .authorities) fails o mo in
@@ -70,12 +64,18 @@ module _ (b : Board) (r : Reckoning.Reckoning) (F : Follows b r) (n : ℕ) (l : 
       ap not (ne-eqb (authorityNo o) (authorityNo a) (λ q. ne (sym e ∙ q ∙ authority-there b n l .1))) in
       let c3 : not (eqb (authorityNo o) old) ≡ true = ap not (ne-eqb (authorityNo o) old (λ q. nold (sym e ∙ q))) in
       let c4 : shares (a .limits) (o .limits) ≡ true = shares-some (a .limits) (o .limits) p (omega (arith, k .last)) (h .from p ip) (k .from p im) in
-      let c5 : not (isTwa (a .kind) && eqb (authorityNo o) (a .agreed .0)) ≡ false = search (shown, none) in
-      let twa : a .kind ≡ Twa = twa-kind (a .kind) (search (told, c5)) in
+      let c5 : not ((isTwa (a .kind) || isToa (a .kind)) && eqb (authorityNo o) (a .agreed .0)) ≡ false = search (shown, none) in
+      let some-kind : (isTwa (a .kind) || isToa (a .kind)) ≡ true = search (told, c5) in
       let agreed : authorityNo o ≡ a .agreed .0 = search (told, eqb-true, c5) in
       let some : a .agreed .0 ≡ 0 → ⊥ = λ z. omega (arith, k .positive) in
-      let toa = F .toa a (authority-there b n l .0) some in
-      (subst (λ (i : ℕ). r .authority i .kind ≡ Toa) (sym agreed ∙ e) (toa .0), h .kind ∙ twa, h .agreed some ∙ sym agreed ∙ e)
+      let gives : r .authority m .kind ≡ giver (a .kind) =
+      subst (λ (i : ℕ). r .authority i .kind ≡ giver (a .kind)) (sym agreed ∙ e) (F .rests a (authority-there b n l .0) some .0) in (
+        omega (arith, F .since m f),
+        ⊎-map
+        (λ w. let twa = twa-kind (a .kind) w in (gives ∙ ap giver twa, h .kind ∙ twa, h .agreed twa some ∙ sym agreed ∙ e))
+        (λ w. let toa = toa-kind (a .kind) w in (gives ∙ ap giver toa, h .kind ∙ toa, h .joined toa some ∙ sym agreed ∙ e))
+        (or-cases (isTwa (a .kind)) (isToa (a .kind)) some-kind),
+      )
 
   -- 11: each gate that n needs is blocked
   new-protected : unprotected b a ≡ false → (g : ℕ) → g < length (b .gates) → In x (gateAt (b .gates) g .to)
@@ -99,8 +99,8 @@ module _ (b : Board) (r : Reckoning.Reckoning) (F : Follows b r) (n : ℕ) (l : 
         (λ i. clash (h .from (o .rear) (subst (In x) (q .rear) i)) (search (told, none))),
       )
 
-held-granted : {requests : ℕ} (x : Reckoned) (a : Authority) → Held requests x a → Held requests (asForced true x) (granted a)
-held-granted x a h = held-anew x (asForced true x) a (granted a) h refl refl refl refl refl refl refl (λ e. refl) (h .agreed)
+held-granted : {requests : ℕ} (since : ℕ) (x : Reckoned) (a : Authority) → Held requests x a → Held requests (asForced since x) (granted a)
+held-granted since x a h = held-anew x (asForced since x) a (granted a) h refl refl refl refl refl refl refl (λ e. refl) (h .agreed) (h .joined)
 
 module _ (b : Board) (r : Reckoning.Reckoning) (F : Follows b r) (S : Safe (b .gates) r) (s : Seven) where
   -- ---- GRANT
@@ -109,19 +109,22 @@ module _ (b : Board) (r : Reckoning.Reckoning) (F : Follows b r) (S : Safe (b .g
   unfolding effect reckon own conditionAt
   keeps-grant n officer ok = record {
     follows =
-        follows-amended b r F (n .0) granted (asForced true (r .authority (n .0))) (λ a. refl) refl (held-granted (r .authority (n .0)))
-        (λ a m. F .toa a m) (λ f. there b r F (n .0) l);
+        follows-amended b r F (n .0) granted x (suc (r .grants)) (λ a. refl) refl (held-granted (suc (r .grants)) (r .authority (n .0)))
+        (λ a m e. F .rests a m) (λ f. there b r F (n .0) l) (omega arith) (λ f. omega arith);
     safe =
-        safe-put (b .gates) r (n .0) (asForced true (r .authority (n .0)))
+        safe-put (b .gates) r (n .0) x
         (record {
           apart = λ m p ne f im ip. inl (new-apart b r F (n .0) l 0 (ok .ok 13) m p ne (nonzero m f) f im ip);
           piloted = λ t on e i. absurd (new-untouched b r F (n .0) l (ok .ok 12) t on .0 i);
           untouched = λ t on k v. new-untouched b r F (n .0) l (ok .ok 12) t on;
           protected = new-protected b r F (n .0) l (ok .ok 11);
         })
-        S;
+        S (suc (r .grants));
   }
     where
+      x : Reckoned
+      x = asForced (suc (r .grants)) (r .authority (n .0))
+
       l : live b (n .0) ≡ true
       l = is-live b r F (n .0) (ok .ok 5)
 
@@ -136,8 +139,8 @@ module _ (b : Board) (r : Reckoning.Reckoning) (F : Follows b r) (S : Safe (b .g
   unfolding effect reckon own conditionAt
   keeps-reoccupy n officer ok = record {
     follows =
-        follows-amended b r F (n .0) (withSite true) (asSited true (r .authority (n .0))) (λ a. refl) refl (held-sited (r .authority (n .0)) true)
-        (λ a m. F .toa a m) (λ f. there b r F (n .0) l);
+        follows-amended b r F (n .0) (withSite true) (asSited true (r .authority (n .0))) (r .grants) (λ a. refl) refl
+        (held-sited (r .authority (n .0)) true) (λ a m e. F .rests a m) (λ f. there b r F (n .0) l) (omega arith) (F .since (n .0));
     safe =
         safe-put (b .gates) r (n .0) (asSited true (r .authority (n .0)))
         (record {
@@ -146,7 +149,7 @@ module _ (b : Board) (r : Reckoning.Reckoning) (F : Follows b r) (S : Safe (b .g
           untouched = λ t on k v. new-untouched b r F (n .0) l (free k) t on;
           protected = λ g lt i o. S .protected (n .0) g force lt i o;
         })
-        S;
+        S (r .grants);
   }
     where
       l : live b (n .0) ≡ true
@@ -244,25 +247,26 @@ module _ (b : Board) (r : Reckoning.Reckoning) (F : Follows b r) (S : Safe (b .g
   unfolding effect reckon own conditionAt
   keeps-continue old new officerOld officerNew ok = record {
     follows =
-        follows-amended b1 r1 follows-old (new .0) granted x (λ a. refl) (ap (λ (u : Reckoned). u .kind) (sym new-is))
-        (λ a k. held-granted (r .authority (new .0)) a (subst (λ (u : Reckoned). Held (r .requests) u a) new-is k))
-        (λ a m. follows-old .toa a m) (λ f. there-ended (old .0) (b .authorities) (new .0) distinct (there b r F (new .0) ln));
+        follows-amended b1 r1 follows-old (new .0) granted (asForced (suc (r .grants)) (r1 .authority (new .0))) (suc (r .grants)) (λ a. refl) refl
+        (held-granted (suc (r .grants)) (r1 .authority (new .0))) (λ a m e. follows-old .rests a m)
+        (λ f. there-ended (old .0) (b .authorities) (new .0) distinct (there b r F (new .0) ln)) (omega arith) (λ f. omega arith);
     safe =
-        safe-put (b .gates) r1 (new .0) x
+        safe-put (b .gates) r1 (new .0) (asForced (suc (r .grants)) (r1 .authority (new .0)))
+        (subst (λ (u : Reckoned). New (b .gates) r1 (new .0) (asForced (suc (r .grants)) u)) (sym new-is)
         (record {
           apart = apart-new;
           piloted = λ t on e i. is-handed b r F (old .0) new lo ln t (beside-piloted b r F (old .0) new lo ln (ok .ok 12) t on i) i;
           untouched = λ t on k v. beside-untouched b r F (old .0) new lo ln (ok .ok 12) t on k;
           protected = new-protected b r F (new .0) ln (ok .ok 11);
-        })
-        safe-old;
+        }))
+        safe-old (suc (r .grants));
   }
     where
       x : Reckoned
-      x = asForced true (r .authority (new .0))
+      x = asForced (suc (r .grants)) (r .authority (new .0))
 
       z : Reckoned
-      z = asForced false (r .authority (old .0))
+      z = asEnded (r .authority (old .0))
 
       lo : live b (old .0) ≡ true
       lo = is-live b r F (old .0) (search (told, ok .ok 5))

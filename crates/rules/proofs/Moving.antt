@@ -2,7 +2,7 @@
 use Prim.Native.Nat.{ℕ}
 use native.Mathlib.Decide.{ℕ-discrete}
 use mathlib.Core.Path.{_≡_, refl, sym, ap, subst, _∙_}
-use mathlib.Core.Logic.{inr, ⊎-elim}
+use mathlib.Core.Logic.{inl, inr, ⊎-elim}
 use mathlib.Core.Bool.{Bool, true, false, cond, not, _&&_, false≢true}
 use mathlib.Core.List.{List, [], _∷_, _++_, List·Memᴰ·head, Memᴰ·append-left, Memᴰ·append-right, List·Memᴰ·append-cases, List·Memᴰ·eq-of-singleton}
 use borrow.Author.Tests.{eqb-true, eqb-false}
@@ -25,14 +25,13 @@ use Rattle.rules.specs.Board.{Board, isOutside, gateAt, noAuthority, exc
 use Rattle.rules.specs.Refusals.{isE, isW, anyE, anyW, theW, pilot, workedOn, isAt, notThere, notPiloted, own}
 use Rattle.rules.specs.Effects.{entered, withHead, withRearIn, effect}
 use Rattle.rules.specs.Reckoning as Reckoning
-use Rattle.rules.specs.Reckoning.{Position, put, asMoved, asPassed, reckon}
-use Rattle.rules.specs.Claim.{In, Forced, Safe}
+use Rattle.rules.specs.Reckoning.{Reckoned, Position, put, asMoved, asPassed, reckon}
+use Rattle.rules.specs.Claim.{In, Forced, Agreed, Safe}
 use Rattle.rules.proofs.Answers.{conditionAt}
 use Rattle.rules.proofs.Accepted.{Accepted}
 use Rattle.rules.proofs.Follows.{put-same, put-other, put-all, Placed, AllPlaced, Follows, train-there, gone-member, runs-gone, placed-moved, follows-trains}
 use Rattle.rules.proofs.Claims.{Smaller, quiet-same, small-same, safe-less}
-use Rattle.rules.proofs.Recording.{Keeps, held-there}
-use Rattle.rules.proofs.Granting.{twa-kind}
+use Rattle.rules.proofs.Recording.{Keeps, twa-kind, held-there}
 
 -- two numbers of which it can't be that they differ
 stable : (i j : ℕ) → ((i ≡ j → ⊥) → ⊥) → i ≡ j
@@ -42,6 +41,15 @@ stable i j h = pick (ℕ-discrete i j)
     pick (yes e) = e
     pick (no e) = absurd (h e)
 
+-- of two that have an agreement one is a TOA and one a TWA
+not-both-exclusive : (x y : Reckoned) {n : ℕ} → Agreed x n y → exclusive (x .kind) ≡ true → exclusive (y .kind) ≡ true → ⊥
+not-both-exclusive x y (l, inl w) xx xy = false≢true (subst (λ (k : Kind). exclusive k ≡ true) (w .1) xy)
+not-both-exclusive x y (l, inr w) xx xy = false≢true (subst (λ (k : Kind). exclusive k ≡ true) (w .0) xx)
+
+not-both-twa : (x y : Reckoned) {n : ℕ} → Agreed x n y → x .kind ≡ Twa → y .kind ≡ Twa → ⊥
+not-both-twa x y (l, inl w) kx ky = false≢true (ap isTwa (sym (w .0) ∙ kx))
+not-both-twa x y (l, inr w) kx ky = false≢true (ap isTwa (sym (w .1) ∙ ky))
+
 module _ (b : Board) (r : Reckoning.Reckoning) (F : Follows b r) (S : Safe (b .gates) r) where
   -- ---- one authority in force at a portion: E is the only exclusive one, W the only TWA, by the claim itself
 
@@ -50,7 +58,7 @@ module _ (b : Board) (r : Reckoning.Reckoning) (F : Follows b r) (S : Safe (b .g
   only-exclusive m n p fm fn xm xn im jn =
       stable m n
       (λ ne.
-      ⊎-elim (λ g. false≢true (subst (λ (k : Kind). exclusive k ≡ true) (g .1) xn)) (λ g. false≢true (subst (λ (k : Kind). exclusive k ≡ true) (g .1) xm))
+      ⊎-elim (λ g. not-both-exclusive (r .authority m) (r .authority n) g xm xn) (λ g. not-both-exclusive (r .authority n) (r .authority m) g xn xm)
       (S .apart m n p ne fm fn im jn))
 
   only-twa : (m n p : ℕ) → Forced (r .authority) m → Forced (r .authority) n
@@ -58,7 +66,7 @@ module _ (b : Board) (r : Reckoning.Reckoning) (F : Follows b r) (S : Safe (b .g
   only-twa m n p fm fn km kn im jn =
       stable m n
       (λ ne.
-      ⊎-elim (λ g. false≢true (ap isTwa (sym (g .0) ∙ km))) (λ g. false≢true (ap isTwa (sym (g .0) ∙ kn)))
+      ⊎-elim (λ g. not-both-twa (r .authority m) (r .authority n) g km kn) (λ g. not-both-twa (r .authority n) (r .authority m) g kn km)
       (S .apart m n p ne fm fn im jn))
 
   -- the exclusive authority in force whose limits hold p is the pilot

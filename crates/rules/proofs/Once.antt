@@ -20,7 +20,7 @@ use Rattle.rules.specs.declared.Authority.{Authority}
 use Rattle.rules.specs.declared.Train.{Train}
 use Rattle.rules.specs.declared.Seven.{Seven}
 use Rattle.rules.specs.declared.Call.{Call}
-use Rattle.rules.specs.declared.Call.the-variants.{NoSuchCall, BadField, Request, Withdraw, Agree, Block, Unblock, Grant, Clear, Reoccupy, HandOver, Fulfil, Continue, Move, Passed, Term}
+use Rattle.rules.specs.declared.Call.the-variants.{NoSuchCall, BadField, Request, Withdraw, Agree, Block, Unblock, Grant, Clear, Reoccupy, HandOver, Fulfil, Continue, Move, Passed, Term, Join}
 use Rattle.rules.specs.Board.{Board, opened, isOutside, gateAt, authorityNo, trainNo, isAuthority, isTrain, isNotAuthority, isNotTrain, authority, onBoard, train, withAuthorities, withTrains, amended, ended, moved, gone}
 use Rattle.rules.specs.Call.{minuteOf, named}
 use Rattle.rules.specs.Refusals.{own, full, noRoom, notThere, answer}
@@ -150,6 +150,7 @@ once-effect b o s (Move t g n officer) k =
     once-move b o (entered t (gate .to) n) (t .0) (withHead (gate .to) n) gate refl (λ x. refl) (k .ok 9) (k .ok 17) (isOutside (gate .from)) refl
 once-effect b o s (Passed t) k = once-passed b o (t .0) (isOutside (train b (t .0) .head))
 once-effect b o s (Term n day time length) k = once-change b o (isAuthority (n .0)) (withTerm (minuteOf day time) length) (λ a. refl)
+once-effect b o s (Join twa toa officer distance) k = once-change b o (isAuthority (toa .0)) (withAgreed twa) (λ a. refl)
 
 once-step : (b : Board) (s : Seven) (room : ℕ) → Once b → (z : Bool) → eqb (answer b s room) 0 ≡ z
     → Once (cond z (Rattle.rules.specs.Board.withStamp (s .day) (s .time) (effect b (named s))) b)

@@ -1,5 +1,5 @@
--- Demand 3, call by call: the calls that put nothing more in force (REQUEST, WITHDRAW, AGREE, BLOCK, UNBLOCK, CLEAR, HAND OVER, FULFIL).
--- Each keeps two things: the board follows the reckoning, and the reckoning is safe. Assumes nothing.
+-- Demand 3, call by call: the calls that put nothing more in force (REQUEST, WITHDRAW, HAND OVER, TERM, AGREE, JOIN, BLOCK,
+-- UNBLOCK, CLEAR, FULFIL). Each keeps two things: the board follows the reckoning, and the reckoning is safe. Assumes nothing.
 use Prim.Native.Nat.{ℕ, suc, _≤_}
 use native.Mathlib.Omega.{arith}
 use mathlib.Core.Path.{_≡_, refl, sym, ap, subst, _∙_}
@@ -23,18 +23,28 @@ use Rattle.rules.specs.declared.Authority.{Authority}
 use Rattle.rules.specs.declared.Train.{Train}
 use Rattle.rules.specs.declared.Seven.{Seven}
 use Rattle.rules.specs.declared.Call.{Call}
-use Rattle.rules.specs.declared.Call.the-variants.{Request, Withdraw, Agree, Block, Unblock, Clear, HandOver, Fulfil, Term}
-use Rattle.rules.specs.Board.{Board, gateAt, isToa, inForce, workersOn, authorityNo, trainNo, live, authority, needs, withAuthorities, ended}
-use Rattle.rules.specs.Refusals.{notLive, notToAgree, stillNeeded, inForceNeeds, own}
+use Rattle.rules.specs.declared.Call.the-variants.{Request, Withdraw, Agree, Block, Unblock, Clear, HandOver, Fulfil, Term, Join}
+use Rattle.rules.specs.Board.{Board, gateAt, isToa, isTwa, inForce, workersOn, authorityNo, trainNo, live, authority, needs, withAuthorities, amended, ended}
+use Rattle.rules.specs.Refusals.{notLive, notToAgree, notToJoin, stillNeeded, inForceNeeds, own}
 use Rattle.rules.specs.Effects.{requested, withSite, withOfficer, withAgreed, withTerm, withAuthority, isWith, freed, effect}
 use Rattle.rules.specs.Call.{authorityOf, minuteOf}
 use Rattle.rules.specs.Reckoning as Reckoning
-use Rattle.rules.specs.Reckoning.{Reckoned, put, asRequested, asForced, asSited, asAgreed, reckon}
+use Rattle.rules.specs.Reckoning.{Reckoned, put, asRequested, asEnded, asSited, asAgreed, asJoined, reckon}
 use Rattle.rules.specs.Claim.{In, Forced, Safe}
 use Rattle.rules.proofs.Answers.{conditionAt}
 use Rattle.rules.proofs.Accepted.{Accepted}
-use Rattle.rules.proofs.Follows.{put-same, put-other, put-all, Held, Placed, IsToa, Follows, authority-there, ended-member, there-ended, follows-amended, follows-unreckoned, follows-ended, follows-trains}
+use Rattle.rules.proofs.Follows.{put-same, put-other, put-all, Held, Placed, giver, Rests, Follows, reckonedAs, authority-there, ended-member, there-ended, follows-amended, follows-unreckoned, follows-ended, follows-trains}
 use Rattle.rules.proofs.Claims.{quiet-same, small-same, safe-less, safe-quieter}
+
+pub toa-kind : (k : Kind) → isToa k ≡ true → k ≡ Toa
+toa-kind Lpa e = absurd (false≢true e)
+toa-kind Toa e = refl
+toa-kind Twa e = absurd (false≢true e)
+
+pub twa-kind : (k : Kind) → isTwa k ≡ true → k ≡ Twa
+twa-kind Lpa e = absurd (false≢true e)
+twa-kind Toa e = absurd (false≢true e)
+twa-kind Twa e = refl
 
 -- what an accepted call keeps
 pub record Keeps (b : Board) (r : Reckoning.Reckoning) (c : Call) : Type 0 where
@@ -69,9 +79,11 @@ module _ (b : Board) (r : Reckoning.Reckoning) (F : Follows b r) where
 pub held-anew : {requests : ℕ} (x y : Reckoned) (a c : Authority) → Held requests x a
     → authorityNo c ≡ authorityNo a → c .kind ≡ a .kind → c .limits ≡ a .limits
     → y .kind ≡ x .kind → y .first ≡ x .first → y .last ≡ x .last
-    → y .inForce ≡ inForce c → (inForce c ≡ true → y .workersOn ≡ workersOn c) → ((c .agreed .0 ≡ 0 → ⊥) → y .agreed ≡ c .agreed .0)
+    → y .inForce ≡ inForce c → (inForce c ≡ true → y .workersOn ≡ workersOn c)
+    → (c .kind ≡ Twa → (c .agreed .0 ≡ 0 → ⊥) → y .agreed ≡ c .agreed .0)
+    → (c .kind ≡ Toa → (c .agreed .0 ≡ 0 → ⊥) → y .joined ≡ c .agreed .0)
     → Held requests y c
-held-anew x y a c h n k l ky fy ly f v g = record {
+held-anew x y a c h n k l ky fy ly f v g j = record {
   positive = omega (arith, h .positive);
   allotted = omega (arith, h .allotted);
   kind = ky ∙ h .kind ∙ sym k;
@@ -82,10 +94,11 @@ held-anew x y a c h n k l ky fy ly f v g = record {
   force = f;
   site = v;
   agreed = g;
+  joined = j;
 }
 
 pub held-sited : {requests : ℕ} (x : Reckoned) (on : Bool) (a : Authority) → Held requests x a → Held requests (asSited on x) (withSite on a)
-held-sited x on a h = held-anew x (asSited on x) a (withSite on a) h refl refl refl refl refl refl (h .force) (λ e. refl) (h .agreed)
+held-sited x on a h = held-anew x (asSited on x) a (withSite on a) h refl refl refl refl refl refl (h .force) (λ e. refl) (h .agreed) (h .joined)
 
 module _ (b : Board) (r : Reckoning.Reckoning) (F : Follows b r) (S : Safe (b .gates) r) (s : Seven) where
   -- ---- REQUEST
@@ -98,7 +111,10 @@ module _ (b : Board) (r : Reckoning.Reckoning) (F : Follows b r) (S : Safe (b .g
           requests = ap suc (F .requests);
           portions = F .portions;
           held = λ a m. ⊎-elim (old-held a) (λ e. is-new a (List·Memᴰ·eq-of-singleton e)) (List·Memᴰ·append-cases (b .authorities) m);
-          toa = λ a m z. ⊎-elim (λ k. old-toa a k z) (λ e. absurd (z (ap (λ (o : Authority). o .agreed .0) (List·Memᴰ·eq-of-singleton e)))) (List·Memᴰ·append-cases (b .authorities) m);
+          rests = λ a m z. ⊎-elim (λ k. old-rests a k z) (λ e. absurd (z (ap (λ (o : Authority). o .agreed .0) (List·Memᴰ·eq-of-singleton e)))) (List·Memᴰ·append-cases (b .authorities) m);
+          since =
+              put-all (λ (m : ℕ) (y : Reckoned). y .inForce ≡ true → y .since ≤ r .grants) n x (r .authority) (λ f. absurd (unused f))
+              (λ m ne f. F .since m f);
           there = λ m f. let (a, k, e) = F .there m (was-forced m f) in (a, Memᴰ·append-left (fresh ∷ []) k, e);
           placed = F .placed;
           runs = F .runs;
@@ -135,7 +151,8 @@ module _ (b : Board) (r : Reckoning.Reckoning) (F : Follows b r) (S : Safe (b .g
         last = omega (arith, ok .ranges, F .portions);
         force = ⊎-elim (λ f. absurd (unused f)) (λ e. e) (truth (r .authority n .inForce));
         site = λ e. absurd (false≢true e);
-        agreed = λ z. absurd (z refl);
+        agreed = λ k z. absurd (z refl);
+        joined = λ k z. absurd (z refl);
       }
 
       is-new : (a : Authority) → a ≡ fresh → Held n (put n x (r .authority) (authorityNo a)) a
@@ -158,11 +175,12 @@ module _ (b : Board) (r : Reckoning.Reckoning) (F : Follows b r) (S : Safe (b .g
             force = h .force;
             site = h .site;
             agreed = h .agreed;
+            joined = h .joined;
           })
 
-      old-toa : (a : Authority) → Member a (b .authorities) → IsToa n (put n x (r .authority)) (a .agreed .0)
-      old-toa a m z =
-          let t = F .toa a m z in
+      old-rests : (a : Authority) → Member a (b .authorities) → Rests n (put n x (r .authority)) (a .kind) (a .agreed .0)
+      old-rests a m z =
+          let t = F .rests a m z in
           (ap (λ (y : Reckoned). y .kind) (put-other n x (r .authority) (a .agreed .0) (λ e. omega (arith, t .1))) ∙ t .0, omega (arith, t .1))
 
   -- ---- WITHDRAW, HAND OVER and TERM: nothing is reckoned
@@ -175,7 +193,8 @@ module _ (b : Board) (r : Reckoning.Reckoning) (F : Follows b r) (S : Safe (b .g
           requests = F .requests;
           portions = F .portions;
           held = λ a m. F .held a (ended-member (n .0) (b .authorities) a m .0);
-          toa = λ a m. F .toa a (ended-member (n .0) (b .authorities) a m .0);
+          rests = λ a m. F .rests a (ended-member (n .0) (b .authorities) a m .0);
+          since = F .since;
           there =
               λ m f. there-ended (n .0) (b .authorities) m
               (λ e. pending b r F (n .0) (is-live b r F (n .0) (ok .ok 5)) (ok .ok 6) (subst (Forced (r .authority)) e f)) (F .there m f);
@@ -190,8 +209,8 @@ module _ (b : Board) (r : Reckoning.Reckoning) (F : Follows b r) (S : Safe (b .g
   unfolding effect reckon
   keeps-handOver n out into = record {
     follows =
-        follows-unreckoned b r F (n .0) (withOfficer into) (λ a. refl) (λ a. refl)
-        (λ a x h. held-anew x x a (withOfficer into a) h refl refl refl refl refl refl (h .force) (h .site) (h .agreed));
+        follows-unreckoned b r F (n .0) (withOfficer into) (λ a. refl) (λ a. refl) (λ a. refl)
+        (λ a x h. held-anew x x a (withOfficer into a) h refl refl refl refl refl refl (h .force) (h .site) (h .agreed) (h .joined));
     safe = S;
   }
 
@@ -199,46 +218,75 @@ module _ (b : Board) (r : Reckoning.Reckoning) (F : Follows b r) (S : Safe (b .g
   unfolding effect reckon
   keeps-term n day time length = record {
     follows =
-        follows-unreckoned b r F (n .0) (withTerm (minuteOf day time) length) (λ a. refl) (λ a. refl)
-        (λ a x h. held-anew x x a (withTerm (minuteOf day time) length a) h refl refl refl refl refl refl (h .force) (h .site) (h .agreed));
+        follows-unreckoned b r F (n .0) (withTerm (minuteOf day time) length) (λ a. refl) (λ a. refl) (λ a. refl)
+        (λ a x h. held-anew x x a (withTerm (minuteOf day time) length a) h refl refl refl refl refl refl (h .force) (h .site) (h .agreed) (h .joined));
     safe = S;
   }
 
-  -- ---- AGREE
+  -- ---- AGREE and JOIN
+
+  -- `taker`, pending, records the agreement of the officer of `by`, which is of the kind that can give it, and is reckoned as x: as it was, but for the
+  -- agreement
+  module _ (by taker : AuthorityNo) (x : Reckoned) (live-by : live b (by .0) ≡ true) (live-taker : live b (taker .0) ≡ true)
+      (waits : inForce (authority b (taker .0)) ≡ false) (gives : authority b (by .0) .kind ≡ giver (authority b (taker .0) .kind)) where
+    abbrev y : Reckoned
+    y = r .authority (taker .0)
+
+    -- an authority with the taker's number has its kind
+    taker-kind : (a : Authority) → y .kind ≡ a .kind → a .kind ≡ authority b (taker .0) .kind
+    taker-kind a k = sym k ∙ here b r F (taker .0) live-taker .kind
+
+    pub follows-recorded : x .kind ≡ y .kind → x .first ≡ y .first → x .last ≡ y .last → x .inForce ≡ y .inForce → x .since ≡ y .since
+        → x .workersOn ≡ y .workersOn
+        → (authority b (taker .0) .kind ≡ Twa → x .agreed ≡ by .0) → (authority b (taker .0) .kind ≡ Toa → x .joined ≡ by .0)
+        → Follows (withAuthorities (amended (taker .0) (withAgreed by) (b .authorities)) b) (reckonedAs r (r .requests) (r .grants) (taker .0) x)
+    follows-recorded ke fe le fo si wo ag jo =
+        follows-amended b r F (taker .0) (withAgreed by) x (r .grants) (λ a. refl) ke
+        (λ a h.
+        held-anew y x a (withAgreed by a) h refl refl refl ke fe le (fo ∙ h .force) (λ e. wo ∙ h .site e)
+        (λ k z. ag (sym (taker-kind a (h .kind)) ∙ k)) (λ k z. jo (sym (taker-kind a (h .kind)) ∙ k)))
+        (λ a m e z. (
+          here b r F (by .0) live-by .kind ∙ gives ∙ ap giver (sym (taker-kind a (ap (λ (i : ℕ). r .authority i .kind) (sym e) ∙ F .held a m .kind))),
+          subst (λ (k : ℕ). k ≤ r .requests) (authority-there b (by .0) live-by .1) (here b r F (by .0) live-by .allotted),
+        ))
+        (λ f. there b r F (taker .0) live-taker) (omega arith) (λ f. absurd (pending b r F (taker .0) live-taker waits (sym fo ∙ f)))
+
+    pub safe-recorded : x .inForce ≡ y .inForce → Safe (b .gates) (reckonedAs r (r .requests) (r .grants) (taker .0) x)
+    safe-recorded fo = safe-quieter (b .gates) r S (r .requests) (taker .0) x (λ f. absurd (pending b r F (taker .0) live-taker waits (sym fo ∙ f)))
 
   pub keeps-agree : (toa twa : AuthorityNo) (officer : ℕ) → Accepted b s (Agree toa twa officer) → Keeps b r (Agree toa twa officer)
   unfolding effect reckon own conditionAt notToAgree
-  keeps-agree toa twa officer ok = record {
-    follows =
-        follows-amended b r F (twa .0) (withAgreed toa) (asAgreed (toa .0) x) (λ a. refl) refl
-        (λ a h. held-anew x (asAgreed (toa .0) x) a (withAgreed toa a) h refl refl refl refl refl refl (h .force) (h .site) (λ z. refl))
-        (λ a m z. is-toa) (λ f. there b r F (twa .0) l2);
-    safe = safe-quieter (b .gates) r S (r .requests) (twa .0) (asAgreed (toa .0) x) (λ f. absurd (pending b r F (twa .0) l2 still f));
-  }
-    where
-      x : Reckoned
-      x = r .authority (twa .0)
+  keeps-agree toa twa officer ok =
+      let x : Reckoned = asAgreed (toa .0) (r .authority (twa .0)) in
+      let l1 : live b (toa .0) ≡ true = is-live b r F (toa .0) (search (told, ok .ok 5)) in
+      let l2 : live b (twa .0) ≡ true = is-live b r F (twa .0) (search (told, ok .ok 5)) in
+      let waits : inForce (authority b (twa .0)) ≡ false = search (told, ok .ok 6) in
+      let k1 : authority b (toa .0) .kind ≡ Toa = toa-kind (authority b (toa .0) .kind) (search (told, ok .ok 6)) in
+      let k2 : authority b (twa .0) .kind ≡ Twa = twa-kind (authority b (twa .0) .kind) (search (told, ok .ok 6)) in
+      let gives : authority b (toa .0) .kind ≡ giver (authority b (twa .0) .kind) = k1 ∙ ap giver (sym k2) in
+      record {
+        follows =
+            follows-recorded toa twa x l1 l2 waits gives refl refl refl refl refl refl (λ k. refl)
+            (λ k. absurd (false≢true (ap isToa (sym k2 ∙ k))));
+        safe = safe-recorded toa twa x l1 l2 waits gives refl;
+      }
 
-      l1 : live b (toa .0) ≡ true
-      l1 = is-live b r F (toa .0) (search (told, ok .ok 5))
-
-      l2 : live b (twa .0) ≡ true
-      l2 = is-live b r F (twa .0) (search (told, ok .ok 5))
-
-      still : inForce (authority b (twa .0)) ≡ false
-      still = search (told, ok .ok 6)
-
-      toa-kind : (k : Kind) → isToa k ≡ true → k ≡ Toa
-      toa-kind Lpa e = absurd (false≢true e)
-      toa-kind Toa e = refl
-      toa-kind Twa e = absurd (false≢true e)
-
-      is-toa : (r .authority (toa .0) .kind ≡ Toa) × (toa .0 ≤ r .requests)
-      is-toa =
-          let k : isToa (authority b (toa .0) .kind) ≡ true = search (told, ok .ok 6) in (
-            here b r F (toa .0) l1 .kind ∙ toa-kind (authority b (toa .0) .kind) k,
-            subst (λ (k : ℕ). k ≤ r .requests) (authority-there b (toa .0) l1 .1) (here b r F (toa .0) l1 .allotted),
-          )
+  pub keeps-join : (twa toa : AuthorityNo) (officer distance : ℕ) → Accepted b s (Join twa toa officer distance) → Keeps b r (Join twa toa officer distance)
+  unfolding effect reckon own conditionAt notToJoin
+  keeps-join twa toa officer distance ok =
+      let x : Reckoned = asJoined (twa .0) (r .authority (toa .0)) in
+      let l1 : live b (twa .0) ≡ true = is-live b r F (twa .0) (search (told, ok .ok 5)) in
+      let l2 : live b (toa .0) ≡ true = is-live b r F (toa .0) (search (told, ok .ok 5)) in
+      let waits : inForce (authority b (toa .0)) ≡ false = search (told, ok .ok 6) in
+      let k1 : authority b (twa .0) .kind ≡ Twa = twa-kind (authority b (twa .0) .kind) (search (told, ok .ok 6)) in
+      let k2 : authority b (toa .0) .kind ≡ Toa = toa-kind (authority b (toa .0) .kind) (search (told, ok .ok 6)) in
+      let gives : authority b (twa .0) .kind ≡ giver (authority b (toa .0) .kind) = k1 ∙ ap giver (sym k2) in
+      record {
+        follows =
+            follows-recorded twa toa x l1 l2 waits gives refl refl refl refl refl refl
+            (λ k. absurd (false≢true (ap isTwa (sym k2 ∙ k)))) (λ k. refl);
+        safe = safe-recorded twa toa x l1 l2 waits gives refl;
+      }
 
   -- ---- CLEAR and FULFIL
 
@@ -246,11 +294,12 @@ module _ (b : Board) (r : Reckoning.Reckoning) (F : Follows b r) (S : Safe (b .g
   unfolding effect reckon own conditionAt
   keeps-clear n officer ok = record {
     follows =
-        follows-amended b r F (n .0) (withSite false) (asSited false (r .authority (n .0))) (λ a. refl) refl
-        (held-sited (r .authority (n .0)) false) (λ a m. F .toa a m) (λ f. there b r F (n .0) (is-live b r F (n .0) (ok .ok 5)));
+        follows-amended b r F (n .0) (withSite false) (asSited false (r .authority (n .0))) (r .grants) (λ a. refl) refl
+        (held-sited (r .authority (n .0)) false) (λ a m e. F .rests a m) (λ f. there b r F (n .0) (is-live b r F (n .0) (ok .ok 5)))
+        (omega arith) (F .since (n .0));
     safe =
         safe-quieter (b .gates) r S (r .requests) (n .0) (asSited false (r .authority (n .0)))
-        (λ f. record { force = f; kind = refl; first = refl; last = refl; agreed = refl; site = λ e. absurd (false≢true e) });
+        (λ f. record { force = f; kind = refl; first = refl; last = refl; since = refl; agreed = refl; joined = refl; site = λ e. absurd (false≢true e) });
   }
 
   pub keeps-fulfil : (n : AuthorityNo) (officer assurances : ℕ) → Keeps b r (Fulfil n officer assurances)
@@ -258,12 +307,12 @@ module _ (b : Board) (r : Reckoning.Reckoning) (F : Follows b r) (S : Safe (b .g
   keeps-fulfil n officer assurances = record {
     follows =
         follows-trains (withAuthorities (ended (n .0) (b .authorities)) b)
-        (Reckoning.withAuthorities (put (n .0) (asForced false (r .authority (n .0))) (r .authority)) r) (follows-ended b r F (n .0))
+        (Reckoning.withAuthorities (put (n .0) (asEnded (r .authority (n .0))) (r .authority)) r) (follows-ended b r F (n .0))
         (freed (n .0) (b .trains)) (r .train)
         (change-each (λ (t : Train). Placed (r .train (trainNo t)) t) (isWith (n .0)) (withAuthority (authorityOf 0)) (b .trains) (λ t m e. F .placed t m)
         (λ t m e. let h = F .placed t m in record { onBoard = h .onBoard; head = h .head; rear = h .rear; under = λ z. absurd (z refl) }))
         (λ t on. taken-change trainNo (isWith (n .0)) (withAuthority (authorityOf 0)) (λ t. refl) (b .trains) t (F .runs t on));
-    safe = safe-quieter (b .gates) r S (r .requests) (n .0) (asForced false (r .authority (n .0))) (λ f. absurd (false≢true f));
+    safe = safe-quieter (b .gates) r S (r .requests) (n .0) (asEnded (r .authority (n .0))) (λ f. absurd (false≢true f));
   }
 
   -- ---- BLOCK and UNBLOCK
@@ -289,7 +338,8 @@ module _ (b : Board) (r : Reckoning.Reckoning) (F : Follows b r) (S : Safe (b .g
           requests = F .requests;
           portions = F .portions;
           held = F .held;
-          toa = F .toa;
+          rests = F .rests;
+          since = F .since;
           there = F .there;
           placed = F .placed;
           runs = F .runs;
@@ -313,7 +363,8 @@ module _ (b : Board) (r : Reckoning.Reckoning) (F : Follows b r) (S : Safe (b .g
           requests = F .requests;
           portions = F .portions;
           held = F .held;
-          toa = F .toa;
+          rests = F .rests;
+          since = F .since;
           there = F .there;
           placed = F .placed;
           runs = F .runs;

@@ -11,7 +11,7 @@ use Rattle.portions.proofs.Bits.{has-none}
 use Rattle.rules.specs.declared.Gate.{Gate}
 use Rattle.rules.specs.declared.Seven.{Seven}
 use Rattle.rules.specs.declared.Call.{Call}
-use Rattle.rules.specs.declared.Call.the-variants.{NoSuchCall, BadField, Request, Withdraw, Agree, Block, Unblock, Grant, Clear, Reoccupy, HandOver, Fulfil, Continue, Move, Passed, Term}
+use Rattle.rules.specs.declared.Call.the-variants.{NoSuchCall, BadField, Request, Withdraw, Agree, Block, Unblock, Grant, Clear, Reoccupy, HandOver, Fulfil, Continue, Move, Passed, Term, Join}
 use Rattle.rules.specs.Board.{Board, opened, withStamp}
 use Rattle.rules.specs.Call.{named}
 use Rattle.rules.specs.Refusals.{answer}
@@ -24,7 +24,7 @@ use Rattle.rules.proofs.Accepted.{Accepted, accepted}
 use Rattle.rules.proofs.Opening.{fresh}
 use Rattle.rules.proofs.Follows.{Follows}
 use Rattle.rules.proofs.Claims.{safe-start}
-use Rattle.rules.proofs.Recording.{Keeps, keeps-request, keeps-withdraw, keeps-agree, keeps-block, keeps-unblock, keeps-clear, keeps-handOver, keeps-term, keeps-fulfil}
+use Rattle.rules.proofs.Recording.{Keeps, keeps-request, keeps-withdraw, keeps-agree, keeps-join, keeps-block, keeps-unblock, keeps-clear, keeps-handOver, keeps-term, keeps-fulfil}
 use Rattle.rules.proofs.Granting.{keeps-grant, keeps-reoccupy, keeps-continue}
 use Rattle.rules.proofs.Moving.{keeps-move, keeps-passed}
 
@@ -47,6 +47,7 @@ keeps b r F S s (Continue old new officerOld officerNew) k = keeps-continue b r 
 keeps b r F S s (Move t g n officer) k = keeps-move b r F S s t g n officer k
 keeps b r F S s (Passed t) k = keeps-passed b r F S s t k
 keeps b r F S s (Term n day time length) k = keeps-term b r F S s n day time length
+keeps b r F S s (Join twa toa officer distance) k = keeps-join b r F S s twa toa officer distance k
 
 -- the plan stays
 gates-stay : (b : Board) (c : Call) → effect b c .gates ≡ b .gates
@@ -67,6 +68,7 @@ gates-stay b (Continue old new officerOld officerNew) = refl
 gates-stay b (Move t g n officer) = refl
 gates-stay b (Passed t) = refl
 gates-stay b (Term n day time length) = refl
+gates-stay b (Join twa toa officer distance) = refl
 
 -- ---- a list of calls
 
@@ -76,7 +78,8 @@ stamp-follows day time b r F = record {
   requests = F .requests;
   portions = F .portions;
   held = F .held;
-  toa = F .toa;
+  rests = F .rests;
+  since = F .since;
   there = F .there;
   placed = F .placed;
   runs = F .runs;
@@ -114,7 +117,8 @@ opened-follows portions gates h = record {
   requests = refl;
   portions = h;
   held = λ a m. elim m [ ];
-  toa = λ a m. elim m [ ];
+  rests = λ a m. elim m [ ];
+  since = λ n f. absurd (false≢true f);
   there = λ n f. absurd (false≢true f);
   placed = λ t m. elim m [ ];
   runs = λ n on. absurd (false≢true on);

@@ -1,4 +1,4 @@
--- What the register holds (01, "Track and gates" and "What the register holds"; 02, order 1: terms). Assumes nothing.
+-- What the register holds (01, "Track and gates" and "What the register holds"; 02, order 1: terms, order 4: a TOA's agreement). Assumes nothing.
 use Prim.Native.Nat.{ℕ}
 use mathlib.Core.Path.{_≡_}
 use mathlib.Core.Bool.{Bool, true, false, not, _&&_, _||_}
@@ -19,7 +19,7 @@ use Rattle.rules.specs.declared.Register.{Register}
 
 -- A board: P portions, the gates in order, the last stamp, the last number, the blocked gates as a set, live authorities and trains.
 -- The order in which authorities and trains are held is free in 01; here a new one goes to the end and the order is kept.
--- The agreed TOA of a TWA in force is free in 01; here it stays as recorded until the TWA ends.
+-- The agreed TOA of a TWA in force is free in 01, and the joined TWA of a TOA in force in 02; here each stays as recorded until the TWA or TOA ends.
 pub record Board : Type 0 where
   pub portions : ℕ
   pub gates : List Gate
@@ -253,7 +253,8 @@ gone n ts = keep (isNotTrain n) ts
 
 -- ---- 01's equality of registers
 
--- "the agreed TOA counts only while its TWA is pending"; 02, order 1: "Terms count when registers are compared."
+-- "the agreed TOA counts only while its TWA is pending"; 02, order 1: "Terms count when registers are compared."; order 4: "The TOA records the
+-- TWA, compared while pending"
 pub record SameAuthority (x y : Authority) : Type 0 where
   pub number : authorityNo x ≡ authorityNo y
   pub kind : x .kind ≡ y .kind
@@ -262,6 +263,7 @@ pub record SameAuthority (x y : Authority) : Type 0 where
   pub stage : inForce x ≡ inForce y
   pub site : workersOn x ≡ workersOn y
   pub agreed : isTwa (x .kind) ≡ true → inForce x ≡ false → x .agreed .0 ≡ y .agreed .0
+  pub joined : isToa (x .kind) ≡ true → inForce x ≡ false → x .agreed .0 ≡ y .agreed .0
   pub start : x .start ≡ y .start
   pub length : x .length ≡ y .length
 

@@ -1,6 +1,7 @@
--- The seven numbers of a call, what its fields are called, and their ranges (01, "The thirteen calls"; 02, order 1: TERM). Assumes nothing.
+-- The seven numbers of a call, what its fields are called, and their ranges (01, "The thirteen calls"; 02, order 1: TERM, order 4: JOIN). Assumes
+-- nothing.
 use Prim.Native.Nat.{ℕ, _+_, _*_, _/_, _%_}
-use mathlib.Core.Bool.{Bool, cond, _&&_}
+use mathlib.Core.Bool.{Bool, true, cond, _&&_}
 use mathlib.Core.List.{List, [], _∷_}
 use lib.ListN.{length, getD}
 use lib.Dec.{eqb, leb, ltb}
@@ -11,7 +12,7 @@ use Rattle.rules.specs.declared.Kind.{Kind}
 use Rattle.rules.specs.declared.Kind.the-variants.{Lpa, Toa, Twa}
 use Rattle.rules.specs.declared.Seven.{Seven}
 use Rattle.rules.specs.declared.Call.{Call}
-use Rattle.rules.specs.declared.Call.the-variants.{NoSuchCall, BadField, Request, Withdraw, Agree, Block, Unblock, Grant, Clear, Reoccupy, HandOver, Fulfil, Continue, Move, Passed, Term}
+use Rattle.rules.specs.declared.Call.the-variants.{NoSuchCall, BadField, Request, Withdraw, Agree, Block, Unblock, Grant, Clear, Reoccupy, HandOver, Fulfil, Continue, Move, Passed, Term, Join}
 use Rattle.rules.specs.declared.Field.{Field}
 use Rattle.rules.specs.declared.Field.the-variants as Field
 use Rattle.rules.specs.declared.Form.{Form}
@@ -57,6 +58,8 @@ inRange P G Field.OfficerOrNone value next = leb value 999
 inRange P G Field.Day value next = isDay value
 inRange P G Field.Time value next = isTime value
 inRange P G Field.Length value next = between 1 65535 value
+-- JOIN (02, order 4): "distance in metres", any number; 24 speaks of it, and not 3
+inRange P G Field.Distance value next = true
 
 -- ---- the table of calls
 
@@ -84,7 +87,7 @@ pub record Entry : Type 0 where
 abbrev pub entry : Form → (Seven → Call) → Entry
 entry form named = record { form = form; named = named }
 
--- the calls in order: 1 to 13 of 01, and 14 of 02's order 1
+-- the calls in order: 1 to 13 of 01, 14 of 02's order 1, 15 of its order 4
 unfoldable pub calls : List Entry
 calls =
     entry (form Field.Kind Field.First Field.Last Field.Officer) (λ s. Request (kindOf (s .a)) (s .b) (s .c) (s .d))
@@ -101,6 +104,7 @@ calls =
     ∷ entry (form Field.Train Field.Gate Field.AuthorityOrNone Field.OfficerOrNone) (λ s. Move (trainOf (s .a)) (gateOf (s .b)) (authorityOf (s .c)) (s .d))
     ∷ entry (form Field.Train Field.Unused Field.Unused Field.Unused) (λ s. Passed (trainOf (s .a)))
     ∷ entry (form Field.Authority Field.Day Field.Time Field.Length) (λ s. Term (authorityOf (s .a)) (s .b) (s .c) (s .d))
+    ∷ entry (form Field.Authority Field.Authority Field.Officer Field.Distance) (λ s. Join (authorityOf (s .a)) (authorityOf (s .b)) (s .c) (s .d))
     ∷ []
 
 abbrev pub noEntry : Entry

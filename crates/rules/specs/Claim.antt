@@ -1,5 +1,5 @@
--- Demand 3's claim about what is reckoned from a list of calls, its four statements in the customer's words: by portions, and not by
--- the sets that a register holds. Assumes nothing.
+-- Demand 3's claim about what is reckoned from a list of calls, its four statements in the customer's words, the first with 02's order 4: by
+-- portions, and not by the sets that a register holds. Assumes nothing.
 use Prim.Native.Nat.{ℕ, _≤_, _<_}
 use mathlib.Core.Path.{_≡_}
 use mathlib.Core.Logic.{_⊎_}
@@ -19,9 +19,17 @@ In x p = (x .first ≤ p) × (p ≤ x .last)
 abbrev pub Forced : (ℕ → Reckoned) → ℕ → Type 0
 Forced A n = A n .inForce ≡ true
 
--- x, a TOA with the number n, and y, a TWA, have an agreement
+-- x, with the number n, is a TOA, and y a TWA whose last AGREE names it
+abbrev pub ByAgree : Reckoned → ℕ → Reckoned → Type 0
+ByAgree x n y = (x .kind ≡ Toa) × (y .kind ≡ Twa) × (y .agreed ≡ n)
+
+-- x, with the number n, is a TWA, and y a TOA whose last JOIN names it
+abbrev pub ByJoin : Reckoned → ℕ → Reckoned → Type 0
+ByJoin x n y = (x .kind ≡ Twa) × (y .kind ≡ Toa) × (y .joined ≡ n)
+
+-- "by the agreement of the officer there first" (02, order 4): x, with the number n, came into force earlier than y, and agreed to y
 abbrev pub Agreed : Reckoned → ℕ → Reckoned → Type 0
-Agreed x n y = (x .kind ≡ Toa) × (y .kind ≡ Twa) × (y .agreed ≡ n)
+Agreed x n y = (x .since < y .since) × (ByAgree x n y ⊎ ByJoin x n y)
 
 -- "authorities in force share no portion (save TOA and TWA by agreement)"
 abbrev pub Apart : (ℕ → Reckoned) → Type 0

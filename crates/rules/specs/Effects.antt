@@ -1,4 +1,4 @@
--- What an accepted call does (01, "The thirteen calls"; 02, order 1: TERM). Nothing else changes. Assumes nothing.
+-- What an accepted call does (01, "The thirteen calls"; 02, order 1: TERM, order 4: JOIN). Nothing else changes. Assumes nothing.
 use Prim.Native.Nat.{ℕ, suc}
 use mathlib.Core.Bool.{Bool, true, false, cond}
 use mathlib.Core.List.{List, [], _∷_, _++_}
@@ -11,7 +11,7 @@ use Rattle.rules.specs.declared.Kind.{Kind}
 use Rattle.rules.specs.declared.Authority.{Authority}
 use Rattle.rules.specs.declared.Train.{Train}
 use Rattle.rules.specs.declared.Call.{Call}
-use Rattle.rules.specs.declared.Call.the-variants.{NoSuchCall, BadField, Request, Withdraw, Agree, Block, Unblock, Grant, Clear, Reoccupy, HandOver, Fulfil, Continue, Move, Passed, Term}
+use Rattle.rules.specs.declared.Call.the-variants.{NoSuchCall, BadField, Request, Withdraw, Agree, Block, Unblock, Grant, Clear, Reoccupy, HandOver, Fulfil, Continue, Move, Passed, Term, Join}
 use Rattle.rules.specs.Board.{Board, isOutside, gateAt, inForce, workersOn, authority, train, withAuthorities, withTrains, withBlocks, withLast, amended, ended, moved, gone}
 use Rattle.rules.specs.Call.{authorityOf, minuteOf}
 
@@ -73,16 +73,16 @@ withOfficer officer a = record {
   length = a .length;
 }
 
--- AGREE: "Replaces an earlier agreement."
+-- AGREE, of the TWA: "Replaces an earlier agreement."; JOIN (order 4), of the TOA: "The TOA records the TWA"
 abbrev pub withAgreed : AuthorityNo → Authority → Authority
-withAgreed toa a = record {
+withAgreed other a = record {
   number = a .number;
   kind = a .kind;
   limits = a .limits;
   officer = a .officer;
   «in_force» = inForce a;
   «workers_on» = workersOn a;
-  agreed = toa;
+  agreed = other;
   start = a .start;
   length = a .length;
 }
@@ -176,3 +176,5 @@ effect b (Passed t) =
     b
 -- TERM
 effect b (Term n day time length) = withAuthorities (amended (n .0) (withTerm (minuteOf day time) length) (b .authorities)) b
+-- JOIN
+effect b (Join twa toa officer distance) = withAuthorities (amended (toa .0) (withAgreed twa) (b .authorities)) b

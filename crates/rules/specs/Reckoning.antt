@@ -1,5 +1,5 @@
--- Demand 3's reckoning: what is in force, on site, agreed and blocked, and where and under which authority trains stand, read off a
--- list of calls and their answers in order (01, "The reckoning of demand 3"). Nothing here reads a register. Assumes nothing.
+-- Demand 3's reckoning: what is in force and since when, on site, agreed and blocked, and where and under which authority trains stand, read
+-- off a list of calls and their answers in order (01, "The reckoning of demand 3"; 02, order 4). Nothing here reads a register. Assumes nothing.
 use Prim.Native.Nat.{ℕ, suc}
 use mathlib.Core.Bool.{Bool, true, false, cond, _&&_}
 use mathlib.Core.List.{List, [], _∷_}
@@ -8,20 +8,22 @@ use Rattle.rules.specs.declared.Kind.{Kind}
 use Rattle.rules.specs.declared.Kind.the-variants.{Lpa}
 use Rattle.rules.specs.declared.Gate.{Gate}
 use Rattle.rules.specs.declared.Call.{Call}
-use Rattle.rules.specs.declared.Call.the-variants.{NoSuchCall, BadField, Request, Withdraw, Agree, Block, Unblock, Grant, Clear, Reoccupy, HandOver, Fulfil, Continue, Move, Passed, Term}
+use Rattle.rules.specs.declared.Call.the-variants.{NoSuchCall, BadField, Request, Withdraw, Agree, Block, Unblock, Grant, Clear, Reoccupy, HandOver, Fulfil, Continue, Move, Passed, Term, Join}
 use Rattle.rules.specs.Board.{isOutside, gateAt}
 use Rattle.rules.specs.Call.{between, named}
 use Rattle.rules.specs.Step.{Answered}
 
--- an authority: its kind and limits by its REQUEST, whether it is in force, whether its workers are on, and the TOA that its last
--- AGREE names, 0 where there was none
+-- an authority: its kind and limits by its REQUEST, whether it is in force and since which coming into force, whether its workers are on, the
+-- TOA that its last AGREE as TWA names, and the TWA that its last JOIN as TOA names, 0 where there was none
 pub record Reckoned : Type 0 where
   pub kind : Kind
   pub first : ℕ
   pub last : ℕ
   pub inForce : Bool
+  pub since : ℕ
   pub workersOn : Bool
   pub agreed : ℕ
+  pub joined : ℕ
 
 -- a train: whether it is on the board, its head and rear, and the authority that it is under, 0 for none
 pub record Position : Type 0 where
@@ -30,35 +32,36 @@ pub record Position : Type 0 where
   pub rear : ℕ
   pub under : ℕ
 
--- how many REQUESTs there were; authorities, trains and blocks by number
+-- how many REQUESTs there were, and how often an authority came into force; authorities, trains and blocks by number
 pub record Reckoning : Type 0 where
   pub requests : ℕ
+  pub grants : ℕ
   pub authority : ℕ → Reckoned
   pub train : ℕ → Position
   pub blocked : ℕ → Bool
 
 -- "At the start there is no authority, train, agreement or block"
 abbrev pub noReckoned : Reckoned
-noReckoned = record { kind = Lpa; first = 0; last = 0; inForce = false; workersOn = false; agreed = 0 }
+noReckoned = record { kind = Lpa; first = 0; last = 0; inForce = false; since = 0; workersOn = false; agreed = 0; joined = 0 }
 
 abbrev pub noPosition : Position
 noPosition = record { onBoard = false; head = 0; rear = 0; under = 0 }
 
 abbrev pub start : Reckoning
-start = record { requests = 0; authority = λ n. noReckoned; train = λ t. noPosition; blocked = λ g. false }
+start = record { requests = 0; grants = 0; authority = λ n. noReckoned; train = λ t. noPosition; blocked = λ g. false }
 
 -- f with x at n
 unfoldable pub put : {X : Type 0} → ℕ → X → (ℕ → X) → ℕ → X
 put n x f m = cond (eqb m n) x (f m)
 
 abbrev pub withAuthorities : (ℕ → Reckoned) → Reckoning → Reckoning
-withAuthorities f r = record { requests = r .requests; authority = f; train = r .train; blocked = r .blocked }
+withAuthorities f r = record { requests = r .requests; grants = r .grants; authority = f; train = r .train; blocked = r .blocked }
 
 abbrev pub withTrains : (ℕ → Position) → Reckoning → Reckoning
-withTrains f r = record { requests = r .requests; authority = r .authority; train = f; blocked = r .blocked }
+withTrains f r = record { requests = r .requests; grants = r .grants; authority = r .authority; train = f; blocked = r .blocked }
 
 abbrev pub withBlocked : (ℕ → Bool) → Reckoning → Reckoning
-withBlocked f r = record { requests = r .requests; authority = r .authority; train = r .train; blocked = f }
+withBlocked f r = record { requests = r .requests; grants = r .grants; authority = r .authority; train = r .train; blocked = f }
 
 -- ---- what becomes of one authority, and of one train
 
@@ -69,19 +72,36 @@ asRequested kind first last x = record {
   first = first;
   last = last;
   inForce = x .inForce;
+  since = x .since;
   workersOn = x .workersOn;
   agreed = x .agreed;
+  joined = x .joined;
 }
 
--- "An authority is in force from its GRANT, or a CONTINUE as new, until its FULFIL, or a CONTINUE as old. In that time its workers are on"
-abbrev pub asForced : Bool → Reckoned → Reckoned
-asForced inForce x = record {
+-- "An authority is in force from its GRANT, or a CONTINUE as new, until its FULFIL, or a CONTINUE as old. In that time its workers are on";
+-- of two, the one with the lower `since` came into force earlier
+abbrev pub asForced : ℕ → Reckoned → Reckoned
+asForced since x = record {
   kind = x .kind;
   first = x .first;
   last = x .last;
-  inForce = inForce;
-  workersOn = inForce;
+  inForce = true;
+  since = since;
+  workersOn = true;
   agreed = x .agreed;
+  joined = x .joined;
+}
+
+abbrev pub asEnded : Reckoned → Reckoned
+asEnded x = record {
+  kind = x .kind;
+  first = x .first;
+  last = x .last;
+  inForce = false;
+  since = x .since;
+  workersOn = false;
+  agreed = x .agreed;
+  joined = x .joined;
 }
 
 -- "save from a CLEAR to the next REOCCUPY"
@@ -91,8 +111,10 @@ asSited on x = record {
   first = x .first;
   last = x .last;
   inForce = x .inForce;
+  since = x .since;
   workersOn = on;
   agreed = x .agreed;
+  joined = x .joined;
 }
 
 -- "A TOA and a TWA have an agreement if the TWA's last AGREE names that TOA."
@@ -102,8 +124,23 @@ asAgreed toa x = record {
   first = x .first;
   last = x .last;
   inForce = x .inForce;
+  since = x .since;
   workersOn = x .workersOn;
   agreed = toa;
+  joined = x .joined;
+}
+
+-- "the TOA's last JOIN counts, if it names that TWA" (02, order 4)
+abbrev pub asJoined : ℕ → Reckoned → Reckoned
+asJoined twa x = record {
+  kind = x .kind;
+  first = x .first;
+  last = x .last;
+  inForce = x .inForce;
+  since = x .since;
+  workersOn = x .workersOn;
+  agreed = x .agreed;
+  joined = twa;
 }
 
 -- "A MOVE through a gate from outside puts the train's head and rear at the gate's "to"; any other MOVE puts the head there and the
@@ -135,6 +172,16 @@ asContinued old new x t = record {
   under = cond (eqb (t .under) old && between (x .first) (x .last) (t .head)) new (t .under);
 }
 
+-- authority n comes into force, later than each that did so before
+abbrev pub forced : ℕ → Reckoning → Reckoning
+forced n r = record {
+  requests = r .requests;
+  grants = suc (r .grants);
+  authority = put n (asForced (suc (r .grants)) (r .authority n)) (r .authority);
+  train = r .train;
+  blocked = r .blocked;
+}
+
 -- ---- one accepted call
 
 unfoldable pub reckon : List Gate → Reckoning → Call → Reckoning
@@ -142,6 +189,7 @@ reckon gates r NoSuchCall = r
 reckon gates r BadField = r
 reckon gates r (Request kind first last officer) = record {
   requests = suc (r .requests);
+  grants = r .grants;
   authority = put (suc (r .requests)) (asRequested kind first last (r .authority (suc (r .requests)))) (r .authority);
   train = r .train;
   blocked = r .blocked;
@@ -153,19 +201,19 @@ reckon gates r (Agree toa twa officer) = withAuthorities (put (twa .0) (asAgreed
 -- "A gate is blocked if it has had a BLOCK and no UNBLOCK since."
 reckon gates r (Block g) = withBlocked (put (g .0) true (r .blocked)) r
 reckon gates r (Unblock g) = withBlocked (put (g .0) false (r .blocked)) r
-reckon gates r (Grant n officer) = withAuthorities (put (n .0) (asForced true (r .authority (n .0))) (r .authority)) r
+reckon gates r (Grant n officer) = forced (n .0) r
 reckon gates r (Clear n officer) = withAuthorities (put (n .0) (asSited false (r .authority (n .0))) (r .authority)) r
 reckon gates r (Reoccupy n officer) = withAuthorities (put (n .0) (asSited true (r .authority (n .0))) (r .authority)) r
-reckon gates r (Fulfil n officer assurances) = withAuthorities (put (n .0) (asForced false (r .authority (n .0))) (r .authority)) r
+reckon gates r (Fulfil n officer assurances) = withAuthorities (put (n .0) (asEnded (r .authority (n .0))) (r .authority)) r
 reckon gates r (Continue old new officerOld officerNew) =
-    withTrains (λ t. asContinued (old .0) (new .0) (r .authority (new .0)) (r .train t))
-    (withAuthorities
-    (put (new .0) (asForced true (r .authority (new .0))) (put (old .0) (asForced false (r .authority (old .0))) (r .authority)))
-    r)
+    forced (new .0)
+    (withTrains (λ t. asContinued (old .0) (new .0) (r .authority (new .0)) (r .train t))
+    (withAuthorities (put (old .0) (asEnded (r .authority (old .0))) (r .authority)) r))
 reckon gates r (Move t g n officer) = withTrains (put (t .0) (asMoved (gateAt gates (g .0)) (n .0) (r .train (t .0))) (r .train)) r
 reckon gates r (Passed t) = withTrains (put (t .0) (asPassed (r .train (t .0))) (r .train)) r
 -- TERM (02, order 1) changes nothing here: demand 3 speaks of what is in force, and a term is no part of that
 reckon gates r (Term n day time length) = r
+reckon gates r (Join twa toa officer distance) = withAuthorities (put (toa .0) (asJoined (twa .0) (r .authority (toa .0))) (r .authority)) r
 
 -- ---- "The reckoning of demand 3 reads the list in order: each call's seven numbers and its answer"
 

@@ -1,4 +1,4 @@
--- The conditions for refusal of each call, and its answer (01, "The thirteen calls" and "Refusal words"; 02, order 1). Assumes nothing.
+-- The conditions for refusal of each call, and its answer (01, "The thirteen calls" and "Refusal words"; 02, orders 1 and 4). Assumes nothing.
 use Prim.Native.Nat.{ℕ, _+_}
 use mathlib.Core.Bool.{Bool, cond, not, _&&_, _||_}
 use mathlib.Core.List.{List, [], _∷_}
@@ -11,7 +11,7 @@ use Rattle.rules.specs.declared.Authority.{Authority}
 use Rattle.rules.specs.declared.Train.{Train}
 use Rattle.rules.specs.declared.Seven.{Seven}
 use Rattle.rules.specs.declared.Call.{Call}
-use Rattle.rules.specs.declared.Call.the-variants.{NoSuchCall, BadField, Request, Withdraw, Agree, Block, Unblock, Grant, Clear, Reoccupy, HandOver, Fulfil, Continue, Move, Passed, Term}
+use Rattle.rules.specs.declared.Call.the-variants.{NoSuchCall, BadField, Request, Withdraw, Agree, Block, Unblock, Grant, Clear, Reoccupy, HandOver, Fulfil, Continue, Move, Passed, Term, Join}
 use Rattle.rules.specs.Board.{Board, isOutside, noAuthority, gateAt, exclusive, isLpa, isToa, isTwa, inForce, workersOn, hasTerm, authorityNo, isTrain, live, authority, onBoard, train, touches, touchesPortion, needs}
 use Rattle.rules.specs.Call.{minuteOf, isCall, named, inRanges}
 
@@ -49,6 +49,10 @@ notOfficer b n officer = not (eqb (authority b n .officer) officer)
 unfoldable pub notToAgree : Authority → Authority → Bool
 notToAgree toa twa = not (isToa (toa .kind) && inForce toa && isTwa (twa .kind) && not (inForce twa))
 
+-- 6 stage, of JOIN (02, order 4): not a "TWA in force" and a "pending TOA"
+unfoldable pub notToJoin : Authority → Authority → Bool
+notToJoin twa toa = not (isTwa (twa .kind) && inForce twa && isToa (toa .kind) && not (inForce toa))
+
 -- 9 full: "32 held, or 9999 allotted"
 unfoldable pub full : Board → Bool
 full b = leb 32 (length (b .authorities)) || leb 9999 (b .last)
@@ -72,13 +76,18 @@ inTheWay old a t = touches (a .limits) t && (isTwa (a .kind) || not (eqb (t .wit
 unfoldable pub occupiedBeside : Board → ℕ → Authority → Bool
 occupiedBeside b old a = any (inTheWay old a) (b .trains)
 
--- 13 overlap: "another in force shares a portion, unless this is a TWA and that is the TOA it has agreed";
+-- this rests on the agreement of that one's officer: "this is a TWA and that is the TOA it has agreed"; 02, order 4: "the matching exception", this
+-- is a TOA and that is the TWA it has joined
+unfoldable pub restsOn : Authority → Authority → Bool
+restsOn a o = (isTwa (a .kind) || isToa (a .kind)) && eqb (authorityNo o) (a .agreed .0)
+
+-- 13 overlap: "another in force shares a portion, unless this is a TWA and that is the TOA it has agreed", or as order 4 says;
 -- "For 13 old isn't counted": `old` is 0 in GRANT, and no authority has the number 0
 unfoldable pub clashes : ℕ → Authority → Authority → Bool
 clashes old a o =
     inForce o && not (eqb (authorityNo o) (authorityNo a)) && not (eqb (authorityNo o) old)
     && shares (a .limits) (o .limits)
-    && not (isTwa (a .kind) && eqb (authorityNo o) (a .agreed .0))
+    && not (restsOn a o)
 
 unfoldable pub overlaps : Board → ℕ → Authority → Bool
 overlaps b old a = any (clashes old a) (b .authorities)
@@ -111,6 +120,12 @@ inTerm s a = leb (a .start) (minute s) && ltb (minute s) (a .start + a .length)
 -- 22: "an LPA has no term or the minute is outside it"
 unfoldable pub outsideTerm : Seven → Authority → Bool
 outsideTerm s a = isLpa (a .kind) && (not (hasTerm a) || not (inTerm s a))
+
+-- ---- the railway track signals that the TWA's officer has placed (02, order 4)
+
+-- 24: "the distance is under 500 or over 1000"
+unfoldable pub notAtDistance : ℕ → Bool
+notAtDistance distance = ltb distance 500 || ltb 1000 distance
 
 -- ---- MOVE
 
@@ -290,6 +305,16 @@ termRefusals b s n start =
     ∷ 21 when tooSoon s start
     ∷ []
 
+-- JOIN, order 4 {"5, 6, 7, 8 as for AGREE": 5; 6 not a TWA in force and a pending TOA; 7 not the TWA's officer; 8 that TWA already recorded; 24}
+abbrev pub joinRefusals : Board → ℕ → ℕ → ℕ → ℕ → List Refusal
+joinRefusals b twa toa officer distance =
+    5 when (notLive b twa || notLive b toa)
+    ∷ 6 when notToJoin (authority b twa) (authority b toa)
+    ∷ 7 when notOfficer b twa officer
+    ∷ 8 when eqb (authority b toa .agreed .0) twa
+    ∷ 24 when notAtDistance distance
+    ∷ []
+
 -- the conditions of a call; `s` has its stamp
 unfoldable pub own : Board → Seven → Call → List Refusal
 own b s NoSuchCall = []
@@ -308,6 +333,7 @@ own b s (Continue old new officerOld officerNew) = continueRefusals b s (old .0)
 own b s (Move t g n officer) = moveRefusals b (t .0) (g .0) (gateAt (b .gates) (g .0)) (n .0) officer
 own b s (Passed t) = passedRefusals b (t .0)
 own b s (Term n day time length) = termRefusals b s (n .0) (minuteOf day time)
+own b s (Join twa toa officer distance) = joinRefusals b (twa .0) (toa .0) officer distance
 
 -- all conditions of a call; `room` is the length of the buffer for its line
 unfoldable pub conditions : Board → Seven → ℕ → List Refusal

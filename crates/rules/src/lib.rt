@@ -43,6 +43,7 @@ pub enum Field {
     Day,
     Time,
     Length,
+    Distance,
 }
 
 // The kinds of a call's four fields.
@@ -121,6 +122,12 @@ pub enum Call {
         time: u16,
         length: u16,
     },
+    Join {
+        twa: AuthorityNo,
+        toa: AuthorityNo,
+        officer: u16,
+        distance: u16,
+    },
 }
 
 // A gate: traffic goes from one portion to another; 99 is outside the board.
@@ -130,8 +137,8 @@ pub struct Gate {
     pub kind: u16,
 }
 
-// A live authority. The limits are a set of portions (crate portions); agreed is the TOA whose officer agreed, or 0; start is the minute in
-// which its term starts and length the term's minutes, both 0 where it has none.
+// A live authority. The limits are a set of portions (crate portions); agreed is the authority whose officer's agreement it rests on, a TWA's TOA
+// by AGREE and a TOA's TWA by JOIN, or 0; start is the minute in which its term starts and length the term's minutes, both 0 where it has none.
 pub struct Authority {
     pub number: AuthorityNo,
     pub kind: Kind,

@@ -1,4 +1,4 @@
-// The refusals by document 01's words; 21 and 22 are 02's order 1, 23 its order 2.
+// The refusals by document 01's words; 21 and 22 are 02's order 1, 23 its order 2, 24 its order 4.
 pub const SHORT_LINE: u16 = 1;
 
 pub const NO_SUCH_CALL: u16 = 2;
@@ -45,3 +45,6 @@ pub const TERM: u16 = 22;
 
 // The buffer is shorter than 33 lines of 73 bytes.
 pub const SHORT_PAGE: u16 = 23;
+
+// The distance is under 500 or over 1000 metres.
+pub const DISTANCE: u16 = 24;

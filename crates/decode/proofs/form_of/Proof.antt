@@ -63,7 +63,11 @@ unfolding entryOf calls
 returns-14 c = rw (c .match .keys14)
 
 returns-15 : tie.Need-returns-15
-returns-15 c = ap (λ (e : Entry). e .form) (no-entry (c .before .args .call) (c .match .rest))
+unfolding entryOf calls
+returns-15 c = rw (c .match .keys15)
+
+returns-16 : tie.Need-returns-16
+returns-16 c = ap (λ (e : Entry). e .form) (no-entry (c .before .args .call) (c .match .rest))
 
 pub form-of-spec : {M : Type 1} → statement M
 form-of-spec =
@@ -83,4 +87,5 @@ form-of-spec =
     returns-12
     returns-13
     returns-14
-    returns-15)
+    returns-15
+    returns-16)

@@ -56,6 +56,9 @@ is-time-requires c κs = search needs
 enum-told-14 : tie.Need-enum-told-14
 enum-told-14 c = search needs
 
+enum-told-15 : tie.Need-enum-told-15
+enum-told-15 c = search needs
+
 returns : tie.Need-returns
 unfolding inRange
 returns c = rw (c .enum-told .given .1)
@@ -112,6 +115,10 @@ returns-14 : tie.Need-returns-14
 unfolding inRange
 returns-14 c = rw (c .enum-told14 .given .1, le-leb (c .before .before .args .value) 65535 (omega arith), and-true)
 
+returns-15 : tie.Need-returns-15
+unfolding inRange
+returns-15 c = rw (c .enum-told15 .given .1)
+
 pub is-in-range-spec : {M : Type 1} → statement M
 is-in-range-spec =
     tie.close
@@ -132,6 +139,7 @@ is-in-range-spec =
     enum-told-13
     is-time-requires
     enum-told-14
+    enum-told-15
     returns
     returns-2
     returns-3
@@ -145,4 +153,5 @@ is-in-range-spec =
     returns-11
     returns-12
     returns-13
-    returns-14)
+    returns-14
+    returns-15)

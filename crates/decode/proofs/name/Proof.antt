@@ -67,8 +67,12 @@ unfolding named entryOf calls
 returns-14 c = rw (c .match .keys14)
 
 returns-15 : tie.Need-returns-15
+unfolding named entryOf calls
+returns-15 c = rw (c .match .keys15)
+
+returns-16 : tie.Need-returns-16
 unfolding named
-returns-15 c = ap (λ (e : Entry). e .named (c .before .args .s)) (no-entry (c .before .args .s .call) (c .match .rest))
+returns-16 c = ap (λ (e : Entry). e .named (c .before .args .s)) (no-entry (c .before .args .s .call) (c .match .rest))
 
 pub name-spec : {M : Type 1} → statement M
 name-spec =
@@ -89,4 +93,5 @@ name-spec =
     returns-12
     returns-13
     returns-14
-    returns-15)
+    returns-15
+    returns-16)

@@ -94,6 +94,12 @@ enum-known-c-13 c = search needs
 answer-term-requires : tie.Need-answer-term-requires
 answer-term-requires c κs = search needs
 
+enum-known-c-14 : tie.Need-enum-known-c-14
+enum-known-c-14 c = search needs
+
+answer-join-requires : tie.Need-answer-join-requires
+answer-join-requires c κs = search needs
+
 returns : tie.Need-returns
 unfolding own lowest
 returns c = rw (c .enum-told .given .1)
@@ -158,6 +164,10 @@ returns-16 : tie.Need-returns-16
 unfolding own
 returns-16 c = rw (c .before .before .c13 .given .1) (c .answer-term .ensures)
 
+returns-17 : tie.Need-returns-17
+unfolding own
+returns-17 c = rw (c .before .before .c14 .given .1) (c .answer-join .ensures)
+
 pub answer-of-spec : {M : Type 1} → statement M
 answer-of-spec =
     tie.close
@@ -192,6 +202,8 @@ answer-of-spec =
     answer-passed-requires
     enum-known-c-13
     answer-term-requires
+    enum-known-c-14
+    answer-join-requires
     returns
     returns-2
     returns-3
@@ -207,4 +219,5 @@ answer-of-spec =
     returns-13
     returns-14
     returns-15
-    returns-16)
+    returns-16
+    returns-17)

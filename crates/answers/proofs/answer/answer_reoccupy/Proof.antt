@@ -1,7 +1,7 @@
 -- `answers::answer::answer_reoccupy` meets its contract. Assumes nothing.
 use borrow.Author.Needs.{needs}
 use Rattle.rules.specs.Refusals.{notOfficer}
-use Rattle.answers.proofs.Finding.{not-live, is-live}
+use Rattle.authorities.proofs.Finding.{not-live, is-live}
 use Rattle.answers.proofs.answer.answer_reoccupy.Statement.{statement}
 use Rattle.answers.proofs.answer.answer_reoccupy.Tie as tie
 

@@ -1,6 +1,6 @@
 -- `answers::answer::answer_request` meets its contract. Assumes nothing.
 use borrow.Author.Needs.{needs}
-use Rattle.answers.proofs.Finding.{refusals}
+use Rattle.authorities.proofs.Finding.{refusals}
 use Rattle.answers.proofs.answer.answer_request.Statement.{statement}
 use Rattle.answers.proofs.answer.answer_request.Tie as tie
 

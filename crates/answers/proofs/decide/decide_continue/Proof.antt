@@ -1,6 +1,6 @@
 -- `answers::decide::decide_continue` meets its contract. Assumes nothing.
 use borrow.Author.Needs.{needs}
-use Rattle.answers.proofs.Finding.{refusals}
+use Rattle.authorities.proofs.Finding.{refusals}
 use Rattle.answers.proofs.decide.decide_continue.Statement.{statement}
 use Rattle.answers.proofs.decide.decide_continue.Tie as tie
 

@@ -1,6 +1,6 @@
 -- `answers::decide::decide_grant` meets its contract. Assumes nothing.
 use borrow.Author.Needs.{needs}
-use Rattle.answers.proofs.Finding.{refusals}
+use Rattle.authorities.proofs.Finding.{refusals}
 use Rattle.answers.proofs.decide.decide_grant.Statement.{statement}
 use Rattle.answers.proofs.decide.decide_grant.Tie as tie
 

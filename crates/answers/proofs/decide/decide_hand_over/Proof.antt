@@ -1,5 +1,5 @@
 -- `answers::decide::decide_hand_over` meets its contract. Assumes nothing.
-use Rattle.answers.proofs.Finding.{refusals}
+use Rattle.authorities.proofs.Finding.{refusals}
 use Rattle.answers.proofs.decide.decide_hand_over.Statement.{statement}
 use Rattle.answers.proofs.decide.decide_hand_over.Tie as tie
 

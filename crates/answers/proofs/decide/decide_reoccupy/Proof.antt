@@ -1,6 +1,6 @@
 -- `answers::decide::decide_reoccupy` meets its contract. Assumes nothing.
 use borrow.Author.Needs.{needs}
-use Rattle.answers.proofs.Finding.{refusals}
+use Rattle.authorities.proofs.Finding.{refusals}
 use Rattle.answers.proofs.decide.decide_reoccupy.Statement.{statement}
 use Rattle.answers.proofs.decide.decide_reoccupy.Tie as tie
 

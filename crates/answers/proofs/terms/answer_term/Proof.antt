@@ -1,6 +1,6 @@
 -- `answers::terms::answer_term` meets its contract. Assumes nothing.
 use borrow.Author.Needs.{needs}
-use Rattle.answers.proofs.Finding.{not-live, is-live}
+use Rattle.authorities.proofs.Finding.{not-live, is-live}
 use Rattle.answers.proofs.terms.answer_term.Statement.{statement}
 use Rattle.answers.proofs.terms.answer_term.Tie as tie
 

@@ -3,7 +3,7 @@ use mathlib.Core.Path.{_≡_}
 use mathlib.Core.Bool.{false}
 use borrow.Author.Needs.{needs}
 use Rattle.rules.specs.Refusals.{notPendingLpa}
-use Rattle.answers.proofs.Finding.{refusals}
+use Rattle.authorities.proofs.Finding.{refusals}
 use Rattle.answers.proofs.terms.decide_term.Statement.{statement}
 use Rattle.answers.proofs.terms.decide_term.Tie as tie
 

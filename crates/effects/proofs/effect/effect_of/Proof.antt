@@ -100,6 +100,12 @@ enum-known-c-14 c = search needs
 term-requires : tie.Need-term-requires
 term-requires c κs = search needs
 
+enum-known-c-15 : tie.Need-enum-known-c-15
+enum-known-c-15 c = search needs
+
+join-requires : tie.Need-join-requires
+join-requires c κs = search needs
+
 returns : tie.Need-returns
 unfolding effect
 returns c = record { board = rw (c .enum-told .given .1); bounds = bounds-in _ _ _ _ (c .before .before .pre .0) }
@@ -150,6 +156,9 @@ returns-15 c = rw (c .before .before .before .before .c13 .given .1) (c .passed 
 returns-16 : tie.Need-returns-16
 returns-16 c = rw (c .before .before .before .before .c14 .given .1) (c .term .ensures)
 
+returns-17 : tie.Need-returns-17
+returns-17 c = rw (c .before .before .before .before .c15 .given .1) (c .join .ensures)
+
 pub effect-of-spec : {M : Type 1} → statement M
 effect-of-spec =
     tie.close
@@ -184,6 +193,8 @@ effect-of-spec =
     passed-requires
     enum-known-c-14
     term-requires
+    enum-known-c-15
+    join-requires
     returns
     returns-2
     returns-3
@@ -199,4 +210,5 @@ effect-of-spec =
     returns-13
     returns-14
     returns-15
-    returns-16)
+    returns-16
+    returns-17)

@@ -1,11 +1,11 @@
--- `answers::decide::decide_agree` meets its contract. Assumes nothing.
+-- `agreements::decide_agree` meets its contract. Assumes nothing.
 use mathlib.Core.Path.{_≡_}
 use mathlib.Core.Bool.{false}
 use borrow.Author.Needs.{needs}
 use Rattle.rules.specs.Refusals.{notToAgree}
-use Rattle.answers.proofs.Finding.{refusals}
-use Rattle.answers.proofs.decide.decide_agree.Statement.{statement}
-use Rattle.answers.proofs.decide.decide_agree.Tie as tie
+use Rattle.authorities.proofs.Finding.{refusals}
+use Rattle.agreements.proofs.decide_agree.Statement.{statement}
+use Rattle.agreements.proofs.decide_agree.Tie as tie
 
 is-toa-requires : tie.Need-is-toa-requires
 is-toa-requires c κs = search needs

@@ -1,8 +1,8 @@
--- The answer to a call: the first refusal of its list that holds, and what the search for an authority says of `live` and `authority`.
+-- The answer to a call: the first refusal of its list that holds, and what the search for an authority, or for two, says of `live` and `authority`.
 -- Assumes nothing.
 use Prim.Native.Nat.{ℕ}
 use mathlib.Core.Path.{_≡_, refl, sym, _∙_}
-use mathlib.Core.Bool.{Bool, true, false, not}
+use mathlib.Core.Bool.{Bool, true, false, not, _||_}
 use mathlib.Core.List.{List, [], _∷_}
 use borrow.Author.Tests.{eq-eqb, ne-eqb}
 use Rattle.lists.specs.Prefix.{prefix}
@@ -51,3 +51,22 @@ module _ (r : Register) (n : ℕ) (rs : List Refusal) {f : Found} (e : f ≡ fou
 
   pub is-live : {a : Authority} {v : ℕ} → f ≡ Is a → (authority (boardOf r) n ≡ a → v ≡ lowest rs) → v ≡ lowest (5 when notLive (boardOf r) n ∷ rs)
   is-live is decided = let h = found r n e is in fails 5 _ _ rs (h .0) (decided (h .1))
+
+-- one that names two is answered 5 where either is not live, else by its other refusals, of the two found
+module _ (r : Register) (n m : ℕ) (rs : List Refusal) {f : Found} (e : f ≡ foundIn (isAuthority n) (prefix (r .live) (r .authorities))) where
+  pub first-not-live : f ≡ Nothing → 5 ≡ lowest (5 when (notLive (boardOf r) n || notLive (boardOf r) m) ∷ rs)
+  unfolding lowest
+  first-not-live none′ = rw (not-found r n e none′)
+
+  module _ {a : Authority} (is : f ≡ Is a) {g : Found} (d : g ≡ foundIn (isAuthority m) (prefix (r .live) (r .authorities))) where
+    pub second-not-live : g ≡ Nothing → 5 ≡ lowest (5 when (notLive (boardOf r) n || notLive (boardOf r) m) ∷ rs)
+    unfolding lowest
+    second-not-live none′ = rw (found r n e is .0, not-found r m d none′)
+
+    pub both-live : {c : Authority} {v : ℕ} → g ≡ Is c → (authority (boardOf r) n ≡ a → authority (boardOf r) m ≡ c → v ≡ lowest rs)
+        → v ≡ lowest (5 when (notLive (boardOf r) n || notLive (boardOf r) m) ∷ rs)
+    unfolding lowest
+    both-live is′ decided =
+        let h = found r n e is in
+        let k = found r m d is′ in
+        rw (h .0, k .0) (decided (h .1) (k .1))
