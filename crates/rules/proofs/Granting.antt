@@ -72,9 +72,9 @@ module _ (b : Board) (r : Reckoning.Reckoning) (F : Follows b r) (n : ℕ) (l : 
       subst (λ (i : ℕ). r .authority i .kind ≡ giver (a .kind)) (sym agreed ∙ e) (F .rests a (authority-there b n l .0) some .0) in (
         omega (arith, F .since m f),
         ⊎-map
-        (λ w. let twa = twa-kind (a .kind) w in (gives ∙ ap giver twa, h .kind ∙ twa, h .agreed twa some ∙ sym agreed ∙ e))
-        (λ w. let toa = toa-kind (a .kind) w in (gives ∙ ap giver toa, h .kind ∙ toa, h .joined toa some ∙ sym agreed ∙ e))
-        (or-cases (isTwa (a .kind)) (isToa (a .kind)) some-kind),
+            (λ w. let twa = twa-kind (a .kind) w in (gives ∙ ap giver twa, h .kind ∙ twa, h .agreed twa some ∙ sym agreed ∙ e))
+            (λ w. let toa = toa-kind (a .kind) w in (gives ∙ ap giver toa, h .kind ∙ toa, h .joined toa some ∙ sym agreed ∙ e))
+            (or-cases (isTwa (a .kind)) (isToa (a .kind)) some-kind),
       )
 
   -- 11: each gate that n needs is blocked
