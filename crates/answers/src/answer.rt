@@ -2,8 +2,6 @@
 ghost use mathlib.Core.Path.{_≡_};
 ghost use Rattle.rules.specs.Refusals.{lowest, requestRefusals, withdrawRefusals, blockRefusals, unblockRefusals, grantRefusals, clearRefusals, reoccupyRefusals, handOverRefusals, fulfilRefusals, continueRefusals, own};
 ghost use Rattle.places.specs.Places.{HeadBounds, boardIn};
-use crate::condition::is_full;
-use crate::condition::is_still_needed;
 use crate::decide::decide_clear;
 use crate::decide::decide_continue;
 use crate::decide::decide_fulfil;
@@ -15,6 +13,8 @@ use crate::terms::answer_term;
 use agreements::answer_agree;
 use agreements::answer_join;
 use authorities::Found;
+use conditions::is_full;
+use conditions::is_still_needed;
 use movements::answer_move;
 use movements::answer_passed;
 use places::Head;

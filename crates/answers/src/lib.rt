@@ -1,6 +1,5 @@
 // A call's own answer on the board in the lent arrays: 0, or the lowest refusal from 5 on whose condition holds.
 mod answer;
-mod condition;
 mod decide;
 mod terms;
 

@@ -28,7 +28,7 @@ use Rattle.places.specs.Places.{HeadBounds, boardIn}
 use Rattle.board.specs.Lent.{TakePost}
 use Rattle.board.specs.Faults.{faultOf}
 use Rattle.board.specs.Steps.{withRoom}
-use Rattle.effects.specs.Effects.{EffectPost}
+use Rattle.changes.specs.Effects.{EffectPost}
 use Rattle.places.proofs.Registers.{gates-in-use}
 
 -- ---- what the decoded call says of the answer

@@ -1,7 +1,6 @@
 // Reading a call off its seven numbers: its number is matched over 1 to 15 and the range beyond, its fields are then matched by kind.
 ghost use mathlib.Core.Path.{_≡_};
-ghost use mathlib.Core.Bool.{_&&_};
-ghost use Rattle.rules.specs.Call.{isDay, isTime, minuteOf, inRange, inForm, kindOf, entryOf, named, decoded};
+ghost use Rattle.rules.specs.Call.{inRange, inForm, kindOf, entryOf, named, decoded};
 use rules::AuthorityNo;
 use rules::Call;
 use rules::Field;
@@ -10,33 +9,9 @@ use rules::GateNo;
 use rules::Kind;
 use rules::Seven;
 use rules::TrainNo;
-
-// Day is 0 to 9999.
-fn is_day(day: u16) -> bool
-    ensures { λ r. ⌜ r ≡ isDay day ⌝ }
-{
-    day <= 9999
-}
-
-// Time is hhmm on the 24-hour clock.
-fn is_time(time: u16) -> bool
-    ensures { λ r. ⌜ r ≡ isTime time ⌝ }
-{
-    (time / 100 < 24) & (time % 100 < 60)
-}
-
-fn is_stamp(day: u16, time: u16) -> bool
-    ensures { λ r. ⌜ r ≡ (isDay day && isTime time) ⌝ }
-{
-    is_day(day) & is_time(time)
-}
-
-// The minute of a stamp: 1440 a day, and the minutes of the day.
-pub fn minute_of(day: u16, time: u16) -> u32
-    ensures { λ r. ⌜ r ≡ minuteOf day time ⌝ }
-{
-    day as u32 * 1440 + time as u32 / 100 * 60 + time as u32 % 100
-}
+use stamps::is_day;
+use stamps::is_stamp;
+use stamps::is_time;
 
 // The value is in the range of its kind of field; next is the value of the field after it.
 fn is_in_range(portions: u16, gates: usize, field: Field, value: u16, next: u16) -> bool

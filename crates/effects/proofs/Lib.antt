@@ -1,2 +1,2 @@
 -- The laws that the proofs of this crate's functions cite.
-pub mod Changing
+pub mod EffectLaws

@@ -1,180 +1,34 @@
-// What each accepted call does to the register, in its arrays; the head that it leaves is handed back.
+// What each accepted call does to the register, in its arrays: here those that change trains, the others in `changes`; the head that it leaves is
+// handed back.
 ghost use mathlib.Core.Path.{_≡_};
-ghost use Prim.Native.Nat.{_<_};
 ghost use Rattle.rules.specs.declared.Call.the-variants as Call;
 ghost use Rattle.rules.specs.Board.{isOutside, authority, train};
 ghost use Rattle.rules.specs.Refusals.{lowest, own};
 ghost use Rattle.places.specs.Places.{HeadBounds, registerIn, boardIn};
-ghost use Rattle.effects.specs.Effects.{EffectPost, HasRoom};
+ghost use Rattle.changes.specs.Effects.{EffectPost};
+ghost use Rattle.effects.specs.Room.{HasRoom};
 use authorities::Change;
 use authorities::Found;
-use decode::minute_of;
+use changes::agree;
+use changes::block;
+use changes::clear;
+use changes::grant;
+use changes::hand_over;
+use changes::join;
+use changes::reoccupy;
+use changes::request;
+use changes::term;
+use changes::unblock;
+use changes::withdraw;
 use places::Head;
-use rules::Authority;
 use rules::AuthorityNo;
 use rules::Call;
 use rules::GateNo;
-use rules::Kind;
 use rules::Seven;
 use rules::Train;
 use rules::TrainNo;
 use trains::FoundTrain;
 use trains::TrainChange;
-
-fn request(
-    head: Head,
-    gates: &[u16; 192],
-    authorities: &mut [u64; 256],
-    trains: &mut [u16; 128],
-    kind: Kind,
-    first: u16,
-    last: u16,
-    officer: u16,
-) -> Head
-    requires { ⌜ HeadBounds head × (head .live < 32) × (head .last < 9999) ⌝ }
-    ensures { λ out. ⌜ EffectPost (registerIn head (now (gates .entry)) (now (authorities .entry)) (now (trains .entry))) (Call.Request kind first last officer) (registerIn out (now (gates .entry)) (now (authorities .exit)) (now (trains .exit))) ⌝ }
-{
-    let number = head.last + 1;
-    let a = Authority {
-        number: AuthorityNo(number),
-        kind,
-        limits: portions::run(first, last),
-        officer,
-        in_force: false,
-        workers_on: false,
-        agreed: AuthorityNo(0),
-        start: 0,
-        length: 0,
-    };
-    authorities::add_authority(authorities, head.live, a);
-    let mut out = head;
-    out.live = head.live + 1;
-    out.last = number;
-    out
-}
-
-fn withdraw(
-    head: Head,
-    gates: &[u16; 192],
-    authorities: &mut [u64; 256],
-    trains: &mut [u16; 128],
-    n: AuthorityNo,
-    officer: u16,
-) -> Head
-    requires { ⌜ HeadBounds head ⌝ }
-    ensures { λ out. ⌜ EffectPost (registerIn head (now (gates .entry)) (now (authorities .entry)) (now (trains .entry))) (Call.Withdraw n officer) (registerIn out (now (gates .entry)) (now (authorities .exit)) (now (trains .exit))) ⌝ }
-{
-    let mut out = head;
-    out.live = authorities::end_authority(authorities, head.live, n);
-    out
-}
-
-fn agree(
-    head: Head,
-    gates: &[u16; 192],
-    authorities: &mut [u64; 256],
-    trains: &mut [u16; 128],
-    toa: AuthorityNo,
-    twa: AuthorityNo,
-    officer: u16,
-) -> Head
-    requires { ⌜ HeadBounds head ⌝ }
-    ensures { λ out. ⌜ EffectPost (registerIn head (now (gates .entry)) (now (authorities .entry)) (now (trains .entry))) (Call.Agree toa twa officer) (registerIn out (now (gates .entry)) (now (authorities .exit)) (now (trains .exit))) ⌝ }
-{
-    authorities::amend(authorities, head.live, twa, Change::Agreed(toa));
-    head
-}
-
-fn block(
-    head: Head,
-    gates: &[u16; 192],
-    authorities: &mut [u64; 256],
-    trains: &mut [u16; 128],
-    g: GateNo,
-) -> Head
-    requires { ⌜ HeadBounds head ⌝ }
-    ensures { λ out. ⌜ EffectPost (registerIn head (now (gates .entry)) (now (authorities .entry)) (now (trains .entry))) (Call.Block g) (registerIn out (now (gates .entry)) (now (authorities .exit)) (now (trains .exit))) ⌝ }
-{
-    let mut out = head;
-    out.blocks = portions::with(head.blocks, g.0);
-    out
-}
-
-fn unblock(
-    head: Head,
-    gates: &[u16; 192],
-    authorities: &mut [u64; 256],
-    trains: &mut [u16; 128],
-    g: GateNo,
-) -> Head
-    requires { ⌜ HeadBounds head ⌝ }
-    ensures { λ out. ⌜ EffectPost (registerIn head (now (gates .entry)) (now (authorities .entry)) (now (trains .entry))) (Call.Unblock g) (registerIn out (now (gates .entry)) (now (authorities .exit)) (now (trains .exit))) ⌝ }
-{
-    let mut out = head;
-    out.blocks = portions::without(head.blocks, g.0);
-    out
-}
-
-fn grant(
-    head: Head,
-    gates: &[u16; 192],
-    authorities: &mut [u64; 256],
-    trains: &mut [u16; 128],
-    n: AuthorityNo,
-    officer: u16,
-) -> Head
-    requires { ⌜ HeadBounds head ⌝ }
-    ensures { λ out. ⌜ EffectPost (registerIn head (now (gates .entry)) (now (authorities .entry)) (now (trains .entry))) (Call.Grant n officer) (registerIn out (now (gates .entry)) (now (authorities .exit)) (now (trains .exit))) ⌝ }
-{
-    authorities::amend(authorities, head.live, n, Change::Granted);
-    head
-}
-
-fn clear(
-    head: Head,
-    gates: &[u16; 192],
-    authorities: &mut [u64; 256],
-    trains: &mut [u16; 128],
-    n: AuthorityNo,
-    officer: u16,
-) -> Head
-    requires { ⌜ HeadBounds head ⌝ }
-    ensures { λ out. ⌜ EffectPost (registerIn head (now (gates .entry)) (now (authorities .entry)) (now (trains .entry))) (Call.Clear n officer) (registerIn out (now (gates .entry)) (now (authorities .exit)) (now (trains .exit))) ⌝ }
-{
-    authorities::amend(authorities, head.live, n, Change::Site(false));
-    head
-}
-
-fn reoccupy(
-    head: Head,
-    gates: &[u16; 192],
-    authorities: &mut [u64; 256],
-    trains: &mut [u16; 128],
-    n: AuthorityNo,
-    officer: u16,
-) -> Head
-    requires { ⌜ HeadBounds head ⌝ }
-    ensures { λ out. ⌜ EffectPost (registerIn head (now (gates .entry)) (now (authorities .entry)) (now (trains .entry))) (Call.Reoccupy n officer) (registerIn out (now (gates .entry)) (now (authorities .exit)) (now (trains .exit))) ⌝ }
-{
-    authorities::amend(authorities, head.live, n, Change::Site(true));
-    head
-}
-
-fn hand_over(
-    head: Head,
-    gates: &[u16; 192],
-    authorities: &mut [u64; 256],
-    trains: &mut [u16; 128],
-    n: AuthorityNo,
-    out: u16,
-    into: u16,
-) -> Head
-    requires { ⌜ HeadBounds head ⌝ }
-    ensures { λ o. ⌜ EffectPost (registerIn head (now (gates .entry)) (now (authorities .entry)) (now (trains .entry))) (Call.HandOver n out into) (registerIn o (now (gates .entry)) (now (authorities .exit)) (now (trains .exit))) ⌝ }
-{
-    authorities::amend(authorities, head.live, n, Change::Officer(into));
-    head
-}
 
 fn fulfil(
     head: Head,
@@ -300,45 +154,6 @@ fn passed(
         trains::change_trains(trains, head.running, TrainChange::RearIn(t));
     }
     out
-}
-
-fn term(
-    head: Head,
-    gates: &[u16; 192],
-    authorities: &mut [u64; 256],
-    trains: &mut [u16; 128],
-    n: AuthorityNo,
-    day: u16,
-    time: u16,
-    length: u16,
-) -> Head
-    requires { ⌜ HeadBounds head ⌝ }
-    ensures { λ out. ⌜ EffectPost (registerIn head (now (gates .entry)) (now (authorities .entry)) (now (trains .entry))) (Call.Term n day time length) (registerIn out (now (gates .entry)) (now (authorities .exit)) (now (trains .exit))) ⌝ }
-{
-    authorities::amend(
-        authorities,
-        head.live,
-        n,
-        Change::Term(minute_of(day, time), length),
-    );
-    head
-}
-
-fn join(
-    head: Head,
-    gates: &[u16; 192],
-    authorities: &mut [u64; 256],
-    trains: &mut [u16; 128],
-    twa: AuthorityNo,
-    toa: AuthorityNo,
-    officer: u16,
-    distance: u16,
-) -> Head
-    requires { ⌜ HeadBounds head ⌝ }
-    ensures { λ out. ⌜ EffectPost (registerIn head (now (gates .entry)) (now (authorities .entry)) (now (trains .entry))) (Call.Join twa toa officer distance) (registerIn out (now (gates .entry)) (now (authorities .exit)) (now (trains .exit))) ⌝ }
-{
-    authorities::amend(authorities, head.live, toa, Change::Agreed(twa));
-    head
 }
 
 // Does what the accepted call does, but for its stamp.

@@ -39,7 +39,7 @@ fn fill_line(line: &mut [u8], cells: [Cell; 8])
 fn minute_of(day: u16, time: u16) -> u32
     ensures { λ r. ⌜ (r ≡ minuteOf day time) × (r < 10 ^ 8) ⌝ }
 {
-    decode::minute_of(day, time)
+    stamps::minute_of(day, time)
 }
 
 // Writes the lines of the live authorities to the front of the buffer; later bytes stay.

@@ -2,9 +2,9 @@
 use denote.Ref.{now}
 use borrow.Author.Needs.{needs}
 use Rattle.rules.specs.declared.Register.{Register}
-use Rattle.rules.specs.Refusals.{lowest, notOfficer}
+use Rattle.rules.specs.Refusals.{notOfficer}
 use Rattle.places.specs.Places.{registerIn}
-use Rattle.authorities.proofs.AuthorityLaws.{not-found, found}
+use Rattle.authorities.proofs.Finding.{first-not-live, second-not-live, both-live}
 use Rattle.answers.proofs.answer.answer_continue.Statement.{statement}
 use Rattle.answers.proofs.answer.answer_continue.Tie as tie
 
@@ -22,8 +22,9 @@ enum-told : tie.Need-enum-told
 enum-told c = search needs
 
 returns : tie.Need-returns
-unfolding lowest
-returns c = let s = c .before .before .before in rw (not-found (register s) _ (c .before .before .find .ensures) (c .enum-told .given .1))
+returns c =
+    let f = c .before .before in
+    first-not-live (register (f .before)) _ _ _ (f .find .ensures) (c .enum-told .given .1)
 
 find-requires-2 : tie.Need-find-requires-2
 find-requires-2 c κs = search needs
@@ -35,25 +36,22 @@ enum-told-2 : tie.Need-enum-told-2
 enum-told-2 c = search needs
 
 returns-2 : tie.Need-returns-2
-unfolding lowest
 returns-2 c =
     let x = c .before .before .before .before in
-    let r = register (x .before .before .before) in
-    let first = found r _ (x .before .before .find .ensures) (x .x .given .1) in
-    rw (first .0, not-found r _ (c .before .before .find2 .ensures) (c .enum-told2 .given .1))
+    let f = x .before .before in
+    second-not-live (register (f .before)) _ _ _ (f .find .ensures) (x .x .given .1) (c .before .before .find2 .ensures) (c .enum-told2 .given .1)
 
 decide-continue-requires : tie.Need-decide-continue-requires
 decide-continue-requires c κs = search needs
 
 returns-3 : tie.Need-returns-3
-unfolding lowest notOfficer
+unfolding notOfficer
 returns-3 c =
     let y = c .before .before in
     let x = y .before .before .before .before in
-    let r = register (x .before .before .before) in
-    let first = found r _ (x .before .before .find .ensures) (x .x .given .1) in
-    let second = found r _ (y .before .before .find2 .ensures) (y .y .given .1) in
-    rw (first .0, second .0, first .1, second .1) (c .decide-continue .ensures)
+    let f = x .before .before in
+    both-live (register (f .before)) _ _ _ (f .find .ensures) (x .x .given .1) (y .before .before .find2 .ensures) (y .y .given .1)
+    (λ p q. rw (p, q) (c .decide-continue .ensures))
 
 pub answer-continue-spec : {M : Type 1} → statement M
 answer-continue-spec =

@@ -5,7 +5,7 @@ use Rattle.rules.specs.Board.{boardOf, amended}
 use Rattle.rules.specs.Effects.{effect, granted}
 use Rattle.authorities.specs.Authorities.{changeOf}
 use Rattle.trains.specs.Trains.{trainTest, trainChange}
-use Rattle.effects.proofs.Changing.{changed-effect}
+use Rattle.changes.proofs.Changing.{changed-effect}
 use Rattle.effects.proofs.effect.continue_as.Statement.{statement}
 use Rattle.effects.proofs.effect.continue_as.Tie as tie
 

@@ -2,7 +2,7 @@
 use borrow.Author.Needs.{needs}
 use Rattle.rules.specs.Effects.{effect}
 use Rattle.places.proofs.Registers.{bounds-in}
-use Rattle.effects.proofs.Changing.{may-request, may-move}
+use Rattle.effects.proofs.EffectLaws.{may-request, may-move}
 use Rattle.effects.proofs.effect.effect_of.Statement.{statement}
 use Rattle.effects.proofs.effect.effect_of.Tie as tie
 

@@ -4,7 +4,7 @@ use mathlib.Core.Path.{sym, ap}
 use Rattle.rules.specs.declared.Train.{Train}
 use Rattle.rules.specs.Board.{isOutside}
 use Rattle.trains.proofs.TrainLaws.{train-there}
-use Rattle.effects.proofs.Changing.{train-absent}
+use Rattle.effects.proofs.EffectLaws.{train-absent}
 use Rattle.effects.proofs.effect.is_head_outside.Statement.{statement}
 use Rattle.effects.proofs.effect.is_head_outside.Tie as tie
 

@@ -3,7 +3,7 @@ use borrow.Author.Needs.{needs}
 use mathlib.Core.Path.{sym, ap}
 use Rattle.rules.specs.declared.Authority.{Authority}
 use Rattle.authorities.proofs.AuthorityLaws.{found}
-use Rattle.effects.proofs.Changing.{authority-absent}
+use Rattle.effects.proofs.EffectLaws.{authority-absent}
 use Rattle.effects.proofs.effect.limits_of.Statement.{statement}
 use Rattle.effects.proofs.effect.limits_of.Tie as tie
 
