@@ -7,7 +7,7 @@
 //! generator looks at the reference's board, which it uses as a module, to steer
 //! towards calls that are accepted or refused for a wanted reason. The clock goes
 //! on by a few minutes a call, and sometimes by about a week to the term of an
-//! LPA.
+//! LPA; now and then some TOAs and TWAs join and agree over the same few portions.
 //!
 //! Build: rustc -O generate.rs
 
@@ -17,7 +17,7 @@ mod reference;
 
 use reference::{
     write_number, Authority, AuthorityNumber, Board, Gate, GateNumber, Kind, Place, Portions, Site, Stamp, Train,
-    CALL_LINE, COLUMNS, DAY, LAST_NUMBER, MOST_LIVE, NOTICE, OUTSIDE, PLAN_LINE,
+    CALL_LINE, COLUMNS, DAY, LAST_NUMBER, LEAST_DISTANCE, MOST_DISTANCE, MOST_LIVE, NOTICE, OUTSIDE, PLAN_LINE,
 };
 use std::fs::{self, File};
 use std::io::{self, BufWriter, Write};
@@ -268,12 +268,13 @@ enum Role {
     StartDay,
     StartTime,
     Length,
+    Distance,
     Unused,
 }
 
 fn roles(call: u16) -> [Role; 4] {
     use self::Role::{Assurances, First, Gate, Kind, Last, Officer, Pilot, PilotOfficer, Train, Unused};
-    use self::Role::{Length, StartDay, StartTime};
+    use self::Role::{Distance, Length, StartDay, StartTime};
     const A: Role = Role::Authority;
     match call {
         1 => [Kind, First, Last, Officer],
@@ -285,11 +286,12 @@ fn roles(call: u16) -> [Role; 4] {
         12 => [Train, Gate, Pilot, PilotOfficer],
         13 => [Train, Unused, Unused, Unused],
         14 => [A, StartDay, StartTime, Length],
+        15 => [A, A, Officer, Distance],
         _ => [A, Officer, Unused, Unused],
     }
 }
 
-/// The answers that 01's braces and order 1 allow, and 3 and 4; 0 is left out.
+/// The answers that 01's braces and the orders allow, and 3 and 4; 0 is left out.
 /// One that stands twice is wanted twice as often.
 fn refusals(call: u16) -> &'static [u16] {
     match call {
@@ -307,6 +309,7 @@ fn refusals(call: u16) -> &'static [u16] {
         12 => &[3, 4, 9, 12, 14, 17, 18, 19],
         13 => &[3, 4, 8, 17],
         14 => &[3, 4, 5, 6, 8, 21, 21],
+        15 => &[3, 4, 5, 6, 6, 7, 8, 24, 24],
         _ => &[2],
     }
 }
@@ -315,21 +318,22 @@ fn refusals(call: u16) -> &'static [u16] {
 // Steering
 // ---------------------------------------------------------------------------
 
-/// Weights of the calls 1 to 14.
-type Mood = [usize; 14];
+/// Weights of the calls 1 to 15.
+type Mood = [usize; 15];
 
-const BUILD: Mood = [14, 2, 8, 22, 3, 20, 5, 3, 3, 2, 6, 8, 4, 8];
-const TRAFFIC: Mood = [4, 1, 3, 5, 6, 5, 8, 6, 3, 2, 4, 35, 20, 3];
-const WIND_DOWN: Mood = [3, 8, 3, 3, 20, 4, 14, 3, 4, 20, 10, 8, 12, 3];
-const FILL: Mood = [70, 1, 3, 6, 1, 6, 2, 2, 2, 1, 1, 4, 2, 5];
-const CROWD: Mood = [2, 1, 1, 2, 1, 3, 2, 2, 1, 1, 2, 70, 3, 2];
-const DRAIN: Mood = [2, 1, 1, 2, 8, 2, 6, 2, 2, 2, 2, 40, 30, 2];
-const EVEN: Mood = [8, 8, 8, 8, 8, 8, 8, 8, 8, 8, 8, 8, 8, 8];
-const RENEW: Mood = [16, 2, 3, 14, 2, 6, 5, 3, 3, 2, 24, 20, 3, 8];
-const WORKSITE: Mood = [10, 2, 14, 12, 2, 14, 12, 16, 3, 2, 6, 24, 8, 4];
-const POSSESSION: Mood = [16, 4, 2, 14, 3, 22, 8, 3, 3, 6, 16, 8, 3, 22];
-const MOODS: [&Mood; 10] =
-    [&BUILD, &TRAFFIC, &WIND_DOWN, &FILL, &CROWD, &DRAIN, &EVEN, &RENEW, &WORKSITE, &POSSESSION];
+const BUILD: Mood = [14, 2, 8, 22, 3, 20, 5, 3, 3, 2, 6, 8, 4, 8, 6];
+const TRAFFIC: Mood = [4, 1, 3, 5, 6, 5, 8, 6, 3, 2, 4, 35, 20, 3, 3];
+const WIND_DOWN: Mood = [3, 8, 3, 3, 20, 4, 14, 3, 4, 20, 10, 8, 12, 3, 3];
+const FILL: Mood = [70, 1, 3, 6, 1, 6, 2, 2, 2, 1, 1, 4, 2, 5, 3];
+const CROWD: Mood = [2, 1, 1, 2, 1, 3, 2, 2, 1, 1, 2, 70, 3, 2, 1];
+const DRAIN: Mood = [2, 1, 1, 2, 8, 2, 6, 2, 2, 2, 2, 40, 30, 2, 1];
+const EVEN: Mood = [8, 8, 8, 8, 8, 8, 8, 8, 8, 8, 8, 8, 8, 8, 8];
+const RENEW: Mood = [16, 2, 3, 14, 2, 6, 5, 3, 3, 2, 24, 20, 3, 8, 5];
+const WORKSITE: Mood = [10, 2, 14, 12, 2, 14, 12, 16, 3, 2, 6, 24, 8, 4, 8];
+const POSSESSION: Mood = [16, 4, 2, 14, 3, 22, 8, 3, 3, 6, 16, 8, 3, 22, 2];
+const JOURNEY: Mood = [14, 2, 6, 16, 2, 18, 8, 6, 4, 5, 10, 12, 6, 2, 22];
+const MOODS: [&Mood; 11] =
+    [&BUILD, &TRAFFIC, &WIND_DOWN, &FILL, &CROWD, &DRAIN, &EVEN, &RENEW, &WORKSITE, &POSSESSION, &JOURNEY];
 
 struct Driver {
     rng: Rng,
@@ -594,6 +598,7 @@ impl Driver {
                 [train.map_or_else(|| self.any_train(), |train| train.number.0), 0, 0, 0]
             }
             14 => self.good_term(stamp),
+            15 => self.good_join(),
             _ => [self.any(Role::Authority), self.any_officer(), 0, 0],
         }
     }
@@ -613,14 +618,16 @@ impl Driver {
 
     fn good_request(&mut self) -> [u16; 4] {
         let most = self.board.portions - 1;
-        let kind = if self.mood == POSSESSION {
-            self.rng.pick(&[1, 1, 1, 2, 3])
-        } else {
-            self.rng.pick(&[1, 1, 1, 2, 2, 2, 3, 3, 3])
+        let kind = match self.mood {
+            POSSESSION => self.rng.pick(&[1, 1, 1, 2, 3]),
+            JOURNEY => self.rng.pick(&[1, 2, 2, 2, 3, 3, 3]),
+            _ => self.rng.pick(&[1, 1, 1, 2, 2, 2, 3, 3, 3]),
         };
         let near = match self.rng.below(8) {
-            // a TWA wants a TOA to agree, another something to continue
+            // a TWA wants a TOA to agree, a TOA a TWA to join, another something
+            // to continue
             0..=2 if kind == 3 => self.pick_live(|one| one.is_in_force() && one.kind == Kind::Toa),
+            0..=1 if kind == 2 => self.pick_live(|one| one.is_in_force() && one.kind == Kind::Twa),
             0..=2 => self.pick_live(|one| one.is_in_force()),
             3 => self.pick_live(|_| true),
             _ => None,
@@ -661,6 +668,41 @@ impl Driver {
             .or_else(|| self.pick_live(|one| one.kind == Kind::Toa))
             .unwrap_or(twa);
         [toa.number.0, twa.number.0, toa.officer, 0]
+    }
+
+    fn good_join(&mut self) -> [u16; 4] {
+        let live = self.board.live.clone();
+        let standing = |one: &Authority| one.is_in_force() && one.kind == Kind::Twa;
+        let waiting = |one: &Authority| one.is_pending() && one.kind == Kind::Toa;
+        let beside = |toa: &Authority| live.iter().any(|one| standing(one) && one.limits.share(toa.limits));
+        let near = |toa: &Authority| waiting(toa) && beside(toa);
+        // sometimes one that has joined, to join another in its place
+        let joined = if self.rng.chance(25) { self.pick_live(|one| near(one) && one.agreed.is_some()) } else { None };
+        let toa = joined.or_else(|| self.pick_live(near)).or_else(|| self.pick_live(waiting));
+        let Some(toa) = toa.or_else(|| self.pick_live(|_| true)) else {
+            return [self.dead_number(), self.dead_number(), self.any_officer(), self.good_distance()];
+        };
+        let right = |one: &Authority| standing(one) && toa.agreed != Some(one.number);
+        let twa = self
+            .pick_live(|one| right(one) && one.limits.share(toa.limits))
+            .or_else(|| self.pick_live(right))
+            .or_else(|| self.pick_live(|one| one.kind == Kind::Twa))
+            .unwrap_or(toa);
+        [twa.number.0, toa.number.0, twa.officer, self.good_distance()]
+    }
+
+    /// A distance from 500 to 1000, often one of the two.
+    fn good_distance(&mut self) -> u16 {
+        let (least, most) = (LEAST_DISTANCE, MOST_DISTANCE);
+        let any = self.rng.between(least, most);
+        self.rng.pick(&[least, least, least + 1, most - 1, most, most, any, any])
+    }
+
+    /// A distance under 500 or over 1000, often next to one of the two.
+    fn bad_distance(&mut self) -> u16 {
+        let (under, over) = (self.rng.between(0, LEAST_DISTANCE - 1), self.rng.between(MOST_DISTANCE + 1, 65535));
+        let (below, above) = (LEAST_DISTANCE - 1, MOST_DISTANCE + 1);
+        self.rng.pick(&[below, below, below, above, above, above, 0, 65535, under, over])
     }
 
     fn good_block(&mut self) -> [u16; 4] {
@@ -714,7 +756,14 @@ impl Driver {
                 && one.needs.all_in(blocked)
         };
         let near = |one: &Authority| right(one) && one.limits.share(old.limits);
-        let new = if self.rng.chance(80) { self.pick_live(near) } else { None };
+        // sometimes one that shares a portion with what it has agreed or joined
+        let live = self.board.live.clone();
+        let joint = |this: &Authority| {
+            let other = live.iter().find(|that| that.is_in_force() && this.agreed == Some(that.number));
+            right(this) && other.is_some_and(|that| that.number != old.number && that.limits.share(this.limits))
+        };
+        let new = if self.rng.chance(30) { self.pick_live(joint) } else { None };
+        let new = if new.is_none() && self.rng.chance(80) { self.pick_live(near) } else { new };
         let new = new
             .or_else(|| self.pick_live(right))
             .or_else(|| self.pick_live(|one| one.is_pending()))
@@ -840,6 +889,11 @@ impl Driver {
                 let start = if self.rng.chance(50) { self.good_start(stamp) } else { self.short_start(stamp) };
                 [authority, start.day, start.time, self.any(Role::Length)]
             }
+            15 => {
+                let [one, officer, _, _] = self.two(|_| true);
+                let [other, ..] = self.two(|_| true);
+                [one, other, officer, self.any(Role::Distance)]
+            }
             1 => self.good_request(),
             _ => self.two(|_| true),
         }
@@ -903,6 +957,13 @@ impl Driver {
                 let any = self.rng.between(least, 65535);
                 self.rng.pick(&[least, least + 1, 8 * 60 + least, days, days, any, 65535])
             }
+            Role::Distance => {
+                if self.rng.chance(50) {
+                    self.good_distance()
+                } else {
+                    self.bad_distance()
+                }
+            }
             Role::Unused => 0,
         }
     }
@@ -922,6 +983,8 @@ impl Driver {
             Role::StartDay => self.rng.pick(&[10000, 10000, 10001, 65535]),
             Role::StartTime => self.rng.pick(&[2400, 2360, 2399, 1260, 60, 99, 2401, 9999, 65535]),
             Role::Length => 0,
+            // none is: 24 is for it
+            Role::Distance => self.rng.pick(&[0, 65535]),
             Role::Unused => self.rng.pick(&[1, 1, 2, 7, 256, 65535]),
         }
     }
@@ -961,8 +1024,22 @@ impl Driver {
             }
             4 => stamp = self.earlier_stamp(),
             5 => {
-                let at = if call == 3 || call == 11 { self.rng.below(2) } else { 0 };
+                let at = if call == 3 || call == 11 || call == 15 { self.rng.below(2) } else { 0 };
                 fields[at] = self.dead_number();
+            }
+            6 if call == 3 && self.rng.chance(30) => {
+                // a TOA that has joined, and its TWA
+                if let Some(toa) = self.pick_live(|one| one.kind == Kind::Toa && one.agreed.is_some()) {
+                    let twa = toa.agreed.unwrap_or(toa.number);
+                    [fields[0], fields[1], fields[2]] = [toa.number.0, twa.0, toa.officer];
+                }
+            }
+            6 if call == 15 => self.spoil_join(&mut fields),
+            7 if call == 15 => {
+                // the TOA's officer, or another
+                let [_, toa, officer, _] = fields;
+                let its = self.pick_live(|one| one.number.0 == toa).map_or(officer, |one| one.officer);
+                fields[2] = if its != officer && self.rng.chance(50) { its } else { self.other_officer(officer) };
             }
             7 => {
                 let at = match call {
@@ -987,6 +1064,22 @@ impl Driver {
                 let trains = self.board.trains.clone();
                 let touched = |one: &Authority| trains.iter().any(|train| train.touches(one.limits));
                 fields = self.two(|one| one.is_in_force() && one.kind == Kind::Twa && touched(one));
+            }
+            14 if call == 12 => {
+                // into a TWA with workers on, best inside a TOA
+                let live = self.board.live.clone();
+                let into = |gate: &Gate, fits: &dyn Fn(&Authority) -> bool| {
+                    live.iter().any(|one| one.is_in_force() && one.limits.hold(gate.to) && fits(one))
+                };
+                let at_work = |one: &Authority| one.kind == Kind::Twa && one.site == Site::WorkersOn;
+                let gate = self
+                    .pick_gate(|_, gate| into(gate, &at_work) && into(gate, &|one| one.kind == Kind::Toa))
+                    .or_else(|| self.pick_gate(|_, gate| into(gate, &at_work)));
+                if let Some(gate) = gate {
+                    let (authority, officer) = self.due(gate);
+                    let train = if self.rng.chance(50) { self.free_train() } else { self.any_train() };
+                    fields = [train, gate, authority, officer];
+                }
             }
             14 if call == 10 => {
                 let [authority, officer, _, _] = self.two(|one| one.is_in_force() && one.site == Site::WorkersOn);
@@ -1023,6 +1116,21 @@ impl Driver {
                 fields[2] = self.pick_live(|one| one.number == toa).map_or(1, |one| one.officer);
             }
         }
+        if call == 15 && (want == 8 || ((3..8).contains(&want) && self.rng.chance(10))) {
+            // the TWA that is already recorded; for a lower number the TOA may
+            // be in force
+            let joined = |one: &Authority| one.kind == Kind::Toa && one.agreed.is_some();
+            if let Some(toa) = self.pick_live(|one| joined(one) && (want != 8 || one.is_pending())) {
+                let twa = toa.agreed.unwrap_or(AuthorityNumber(0));
+                let officer = self.pick_live(|one| one.number == twa).map_or(1, |one| one.officer);
+                fields[0] = twa.0;
+                fields[1] = toa.number.0;
+                fields[2] = if want == 7 { self.other_officer(officer) } else { officer };
+            }
+        }
+        if call == 15 && (want == 24 || (want != 0 && self.rng.chance(30))) {
+            fields[3] = self.bad_distance();
+        }
         if want == 21 {
             fields = self.good_term(stamp);
         }
@@ -1034,6 +1142,34 @@ impl Driver {
             stamp = self.term_stamp(fields[usize::from(call == 11)], want, stamp);
         }
         [stamp.day, stamp.time, call, fields[0], fields[1], fields[2], fields[3]]
+    }
+
+    /// JOIN of what isn't a TWA in force and a pending TOA.
+    fn spoil_join(&mut self, fields: &mut [u16; 4]) {
+        let is = |kind: Kind, in_force: bool| move |one: &Authority| one.kind == kind && one.is_in_force() == in_force;
+        match self.rng.below(10) {
+            // AGREE's fields: the TOA first and its officer
+            0 => {
+                fields.swap(0, 1);
+                fields[2] = self.pick_live(|one| one.number.0 == fields[0]).map_or(1, |one| one.officer);
+            }
+            // AGREE's stages
+            1 => [fields[0], fields[2], ..] = self.two(is(Kind::Twa, false)),
+            2 => fields[1] = self.two(is(Kind::Toa, true))[0],
+            // other kinds
+            3 => fields[1] = self.two(is(Kind::Lpa, false))[0],
+            4 => fields[1] = self.two(is(Kind::Twa, false))[0],
+            5 => [fields[0], fields[2], ..] = self.two(is(Kind::Lpa, true)),
+            6 => [fields[0], fields[2], ..] = self.two(is(Kind::Toa, true)),
+            7 => fields[1] = fields[0],
+            // a TWA that has agreed, and its TOA
+            _ => {
+                if let Some(twa) = self.pick_live(|one| one.kind == Kind::Twa && one.agreed.is_some()) {
+                    let toa = twa.agreed.unwrap_or(twa.number);
+                    [fields[0], fields[1], fields[2]] = [twa.number.0, toa.0, twa.officer];
+                }
+            }
+        }
     }
 
     /// Several things wrong at once, whatever the answer may be.
@@ -1054,14 +1190,14 @@ impl Driver {
     }
 
     fn no_such_call(&mut self) -> [u16; 7] {
-        let like = self.rng.between(1, 14);
-        let mut numbers = self.muddled(like);
-        numbers[2] = self.rng.pick(&[0, 0, 15, 15, 16, 17, 99, 256 + like, 65535]);
+        let like = self.rng.between(1, 15);
+        let mut numbers = if self.rng.chance(30) { self.candidate(like, 0) } else { self.muddled(like) };
+        numbers[2] = self.rng.pick(&[0, 0, 16, 16, 17, 18, 99, 256 + like, 65535]);
         numbers
     }
 
     /// The call, or first the same in the minute before or after the term of
-    /// the LPA that it would put in force.
+    /// the LPA that it would put in force, or with another distance.
     fn settled(&mut self, numbers: [u16; 7]) -> [u16; 7] {
         if self.rng.chance(40) {
             if let Some(outside) = self.just_outside(&numbers) {
@@ -1072,8 +1208,12 @@ impl Driver {
         numbers
     }
 
-    /// A GRANT or CONTINUE to an LPA that has a term, put just outside it.
+    /// A GRANT or CONTINUE to an LPA that has a term, put just outside it; a
+    /// JOIN with a distance that is refused.
     fn just_outside(&mut self, numbers: &[u16; 7]) -> Option<[u16; 7]> {
+        if let [day, time, 15, twa, toa, officer, _] = *numbers {
+            return Some([day, time, 15, twa, toa, officer, self.bad_distance()]);
+        }
         let authority = match numbers[2] {
             6 => numbers[3],
             11 => numbers[4],
@@ -1146,6 +1286,10 @@ impl Driver {
             if phase == 0 || (full && self.rng.chance(20)) {
                 self.mood = *self.rng.pick(&MOODS);
                 phase = 20 + self.rng.below(130);
+                if self.rng.chance(30) {
+                    self.journey(end, list);
+                    continue;
+                }
             }
             phase -= 1;
             let left = (end - list.len()) * usize::from(9999 - first_day) / count;
@@ -1154,6 +1298,114 @@ impl Driver {
             self.apply(&numbers);
             list.push(numbers);
         }
+    }
+}
+
+/// More than the calls that `ask` makes: REQUEST, and BLOCK of every gate.
+const ROOM: usize = 70;
+
+const AMONG_OURS: Mood = [12, 2, 10, 0, 0, 22, 8, 6, 3, 8, 14, 12, 6, 0, 26];
+
+impl Driver {
+    /// Calls among some TOAs and TWAs over the same few portions: asked for,
+    /// joined and agreed, in force by GRANT and by CONTINUE, cleared and ended,
+    /// and trains through them. Ends well before the list does.
+    fn journey(&mut self, end: usize, list: &mut Vec<[u16; 7]>) {
+        let (first, last) = self.free_limits();
+        let last = last.min(first + 3);
+        let here = Portions::first_to_last(first, last);
+        let ours = |one: &Authority| one.kind != Kind::Lpa && one.limits.share(here);
+        for _ in 0..20 + self.rng.below(40) {
+            if list.len() + ROOM > end {
+                return;
+            }
+            let asked = self.board.live.iter().filter(|one| ours(one)).count();
+            let call = if asked < 2 { 1 } else { self.rng.weighted(&AMONG_OURS) as u16 + 1 };
+            if call == 1 {
+                let full = self.board.live.len() == MOST_LIVE;
+                let spare = |one: &Authority| one.is_pending() && (full || (asked > 6 && ours(one)));
+                if let Some(one) = self.pick_live(spare) {
+                    self.end(&one, list);
+                }
+                self.ask_near(first, last, list);
+            } else if let Some(fields) = self.journey_fields(call, here, ours) {
+                let stamp = self.stamp();
+                self.add_at(stamp, call, fields, list);
+            }
+        }
+    }
+
+    /// REQUEST of a TOA or a TWA over these limits, a little more or less, and
+    /// BLOCK of what it needs.
+    fn ask_near(&mut self, first: u16, last: u16, list: &mut Vec<[u16; 7]>) {
+        let most = self.board.portions - 1;
+        let (low, high) = match self.rng.below(6) {
+            0 => (first, first),
+            1 => (last, last),
+            2 => (first.saturating_sub(1), last),
+            3 => (first, (last + 1).min(most)),
+            _ => (first, last),
+        };
+        let kind = self.rng.pick(&[2, 2, 3]);
+        let officer = self.any_officer();
+        self.ask([kind, low, high, officer], list);
+    }
+
+    /// The fields of a call among those that are ours, with the officer that
+    /// belongs to them, if the board has something for it.
+    fn journey_fields(&mut self, call: u16, here: Portions, ours: impl Fn(&Authority) -> bool) -> Option<[u16; 4]> {
+        let pending = |one: &Authority| ours(one) && one.is_pending();
+        let standing = |one: &Authority| ours(one) && one.is_in_force();
+        let two = |one: Authority| [one.number.0, one.officer, 0, 0];
+        Some(match call {
+            3 => {
+                let toa = self.pick_live(|one| standing(one) && one.kind == Kind::Toa)?;
+                let twa = self.pick_live(|one| pending(one) && one.kind == Kind::Twa)?;
+                [toa.number.0, twa.number.0, toa.officer, 0]
+            }
+            15 => {
+                let twa = self.pick_live(|one| standing(one) && one.kind == Kind::Twa)?;
+                let toa = self.pick_live(|one| pending(one) && one.kind == Kind::Toa)?;
+                let distance = if self.rng.chance(15) { self.bad_distance() } else { self.good_distance() };
+                [twa.number.0, toa.number.0, twa.officer, distance]
+            }
+            2 | 6 => two(self.pick_live(pending)?),
+            7 => two(self.pick_live(|one| standing(one) && one.site == Site::WorkersOn)?),
+            8 => two(self.pick_live(|one| standing(one) && one.site == Site::Clear)?),
+            9 => {
+                let one = self.pick_live(&ours)?;
+                [one.number.0, one.officer, self.other_officer(one.officer), 0]
+            }
+            10 => {
+                let one = self.pick_live(|one| standing(one) && one.site == Site::Clear)?;
+                [one.number.0, one.officer, 7, 0]
+            }
+            11 => {
+                let anywhere = self.rng.chance(40);
+                let old = self.pick_live(|one| if anywhere { one.is_in_force() } else { standing(one) })?;
+                let new = self.pick_live(pending)?;
+                [old.number.0, new.number.0, old.officer, new.officer]
+            }
+            12 => {
+                // into it, or out of it and on
+                let trains = self.board.trains.clone();
+                let train_at = |from: Place| trains.iter().find(|train| train.head == from && train.rear == from);
+                let leave = self.rng.chance(50);
+                let gate = self.pick_gate(|_, gate| {
+                    let there = gate.from == Place::Outside || train_at(gate.from).is_some();
+                    there && if leave { here.hold(gate.from) } else { here.hold(gate.to) }
+                })?;
+                let from = self.board.gates[usize::from(gate)].from;
+                let train = train_at(from).map_or_else(|| self.free_train(), |train| train.number.0);
+                let (authority, officer) = self.due(gate);
+                [train, gate, authority, officer]
+            }
+            13 => {
+                let parted = |train: &Train| train.head != train.rear && train.touches(here);
+                [self.rng.first_fit(&self.board.trains, parted)?.number.0, 0, 0, 0]
+            }
+            _ => return None,
+        })
     }
 }
 
@@ -1383,20 +1635,23 @@ impl Driver {
     }
 
     /// A TOA over all portions, or all but one, and TWAs in it that its officer
-    /// agreed; then blocks on all gates, or as they are.
+    /// agreed, or a TWA and TOAs in it that joined; then blocks on all gates, or
+    /// as they are.
     fn hold_all(&mut self, list: &mut Vec<[u16; 7]>) {
         let (first, last) = self.rng.pick(&[(0, 63), (0, 63), (0, 62), (1, 63)]);
         let officer = self.any_officer();
-        let Some(toa) = self.ask([2, first, last, officer], list) else {
+        let (outer, inner) = self.rng.pick(&[(2, 3), (2, 3), (3, 2)]);
+        let Some(standing) = self.ask([outer, first, last, officer], list) else {
             return;
         };
-        self.add(6, [toa, officer, 0, 0], list);
+        self.add(6, [standing, officer, 0, 0], list);
         let mut from = self.rng.between(first, 40);
         for _ in 0..self.rng.below(5) {
             let to = (from + self.rng.between(0, 9)).min(last);
-            if let Some(twa) = self.ask([3, from, to, officer], list) {
-                self.add(3, [toa, twa, officer, 0], list);
-                self.add(6, [twa, officer, 0, 0], list);
+            if let Some(one) = self.ask([inner, from, to, officer], list) {
+                let (call, distance) = if outer == 2 { (3, 0) } else { (15, self.good_distance()) };
+                self.add(call, [standing, one, officer, distance], list);
+                self.add(6, [one, officer, 0, 0], list);
             }
             from = (to + 1).min(last);
         }
@@ -1544,11 +1799,14 @@ fn wild(mut rng: Rng) -> (Vec<u8>, Vec<u8>) {
             numbers[0] = 0;
         }
         if rng.chance(90) {
-            numbers[2] = rng.between(1, 14);
+            numbers[2] = rng.between(1, 15);
             let roles = roles(numbers[2]);
             for (number, role) in numbers[3..].iter_mut().zip(roles) {
                 if role == Role::Unused && rng.chance(90) {
                     *number = 0;
+                }
+                if role == Role::Distance && rng.chance(70) {
+                    *number = rng.pick(&[499, 500, 700, 1000, 1001]);
                 }
             }
         }
@@ -1655,7 +1913,7 @@ fn damaged_plan(rng: &mut Rng, plan: &Plan) -> Vec<u8> {
         lines[0][1] = 1;
     }
     let gate = if lines.len() > 1 { 1 + rng.below(lines.len() - 1) } else { 0 };
-    match rng.below(19) {
+    match rng.below(21) {
         0 => lines[0][0] = rng.pick(&[0, 66, 99, 65535, 65536, 65536 + portions, 999999]),
         1 => lines[0][1] += 1,
         2 => lines[0][1] = lines[0][1].saturating_sub(1),
@@ -1664,6 +1922,8 @@ fn damaged_plan(rng: &mut Rng, plan: &Plan) -> Vec<u8> {
         5 if gate > 0 => lines[gate] = [99, 99, 1],
         6 if gate > 0 => lines[gate][0] = rng.pick(&[portions, portions, portions + 1, 98, 100, 65535, 65536 + 99]),
         7 if gate > 0 => lines[gate][1] = rng.pick(&[portions, portions, portions + 1, 98, 100, 65536, 65536 + 99]),
+        18 if gate > 0 => lines[gate][0] = portions,
+        19 if gate > 0 => lines[gate][1] = portions,
         8 if gate > 0 => lines[gate][2] = rng.pick(&[6, 99, 65536, 65537, 999999]),
         9 => {
             // 65 gates
@@ -1701,7 +1961,7 @@ fn text_of(list: &[[u16; 7]]) -> Vec<u8> {
 // A busy board
 // ---------------------------------------------------------------------------
 
-const BUSY: Mood = [3, 3, 7, 8, 8, 6, 8, 8, 8, 4, 5, 24, 16, 2];
+const BUSY: Mood = [3, 3, 7, 8, 8, 6, 8, 8, 8, 4, 5, 24, 16, 2, 4];
 
 /// Writes as it goes, since the list may be long; prints to standard error how
 /// busy the board is at ten points.

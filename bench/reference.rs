@@ -1,4 +1,4 @@
-//! The track authority board, read from 01-scope.md and orders 1 to 3 of
+//! The track authority board, read from 01-scope.md and orders 1 to 4 of
 //! 02-change-requests.md and from nothing else.
 //!
 //! A plain program: it reads the files `plan` and `calls` in the working
@@ -33,6 +33,9 @@ pub const LAST_NUMBER: u16 = 9999;
 pub const DAY: u32 = 1440;
 /// Order 1: "advertised seven days ahead", "10,080 minutes".
 pub const NOTICE: u32 = 7 * DAY;
+/// Order 4: "three railway track signals at 500 to 1000 m".
+pub const LEAST_DISTANCE: u16 = 500;
+pub const MOST_DISTANCE: u16 = 1000;
 
 /// A number takes 6 columns; a plan line is 19 bytes, a call line 43 and a
 /// journal line 55.
@@ -80,6 +83,8 @@ pub enum Refusal {
     OutsideTerm = 22,
     /// Order 2 gives 23 no word.
     ShortSheet = 23,
+    /// Order 4 gives 24 no word.
+    Distance = 24,
 }
 
 fn refuse_if(condition: bool, refusal: Refusal) -> Result<(), Refusal> {
@@ -296,7 +301,9 @@ pub struct Authority {
     pub officer: u16,
     pub stage: Stage,
     pub site: Site,
-    /// "for a TWA, the number of the TOA whose officer agreed, or 0"
+    /// "for a TWA, the number of the TOA whose officer agreed, or 0". Order 4:
+    /// "The TOA records the TWA", so for a TOA the number of the TWA that it
+    /// has joined; an LPA has none.
     pub agreed: Option<AuthorityNumber>,
     /// Order 1: for an LPA, the term that TERM gave it, if any.
     pub term: Option<Term>,
@@ -471,6 +478,7 @@ impl Board {
             12 => self.move_train(stamp, a, b, c, d),
             13 => self.passed(stamp, a, b, c, d),
             14 => self.term(stamp, a, b, c, d),
+            15 => self.join(stamp, a, b, c, d),
             // 2; order 1: "for a number that no call has"
             _ => Err(Refusal::NoSuchCall),
         };
@@ -859,6 +867,35 @@ impl Board {
         Ok(0)
     }
 
+    /// 15 JOIN TWA, TOA, officer of the TWA, distance in metres {"5, 6, 7, 8 as
+    /// for AGREE"; 24}: "TWA in force, pending TOA, the TWA's officer".
+    fn join(&mut self, stamp: Stamp, twa: u16, toa: u16, officer: u16, distance: u16) -> Result<u16, Refusal> {
+        // 3 "a range above"; a distance has none: 24 is for it
+        let numbers_right = authority_in_range(twa) && authority_in_range(toa);
+        self.fields(stamp, numbers_right && officer_in_range(officer))?;
+        // 4
+        self.clock(stamp)?;
+        // 5 "no live authority has that number", of either number
+        let twa_at = self.find_live(twa)?;
+        let toa_at = self.find_live(toa)?;
+        // 6 not a TWA in force and a pending TOA
+        let (the_twa, the_toa) = (&self.live[twa_at], &self.live[toa_at]);
+        let twa_right = the_twa.kind == Kind::Twa && the_twa.is_in_force();
+        let toa_right = the_toa.kind == Kind::Toa && the_toa.is_pending();
+        refuse_if(!twa_right || !toa_right, Refusal::Stage)?;
+        // 7 "not the authority's officer": "the TWA's officer"
+        refuse_if(the_twa.officer != officer, Refusal::Officer)?;
+        // 8 that TWA already recorded
+        refuse_if(the_toa.agreed == Some(AuthorityNumber(twa)), Refusal::AlreadySo)?;
+        // 24 "the distance is under 500 or over 1000"
+        refuse_if(distance < LEAST_DISTANCE || distance > MOST_DISTANCE, Refusal::Distance)?;
+
+        // "The TOA records the TWA"; "the TOA's last JOIN counts", so it
+        // replaces an earlier one, as AGREE does.
+        self.live[toa_at].agreed = Some(AuthorityNumber(twa));
+        Ok(0)
+    }
+
     // ----- the shift sheet -----
 
     /// Order 2: "A portion is held if an authority in force has it in its
@@ -945,9 +982,12 @@ impl Board {
 }
 
 /// 13 "another in force shares a portion, unless this is a TWA and that is the
-/// TOA it has agreed". This one is pending, so it is never its own other.
+/// TOA it has agreed"; order 4: "refusal 13 makes the matching exception", unless
+/// this is a TOA and that is the TWA it has joined. The number alone tells,
+/// since only a TWA records a TOA and only a TOA a TWA. This one is pending, so
+/// it is never its own other.
 fn overlaps(this: &Authority, that: &Authority) -> bool {
-    let agreed = this.kind == Kind::Twa && this.agreed == Some(that.number);
+    let agreed = this.agreed == Some(that.number);
     that.is_in_force() && that.limits.share(this.limits) && !agreed
 }
 
