@@ -13,8 +13,8 @@ use Rattle.rules.specs.Board.{isOutside, gateAt}
 use Rattle.rules.specs.Call.{between, named}
 use Rattle.rules.specs.Step.{Answered}
 
--- an authority: its kind and limits by its REQUEST, whether it is in force and since which coming into force, whether its workers are on, the
--- TOA that its last AGREE as TWA names, and the TWA that its last JOIN as TOA names, 0 where there was none
+-- an authority: its kind and limits by its REQUEST, whether it is in force, its place among all that came into force (`since`), whether its workers
+-- are on, the TOA that its last AGREE names, where it is the TWA, and the TWA that its last JOIN names, where it is the TOA; 0 where there was none
 pub record Reckoned : Type 0 where
   pub kind : Kind
   pub first : ℕ
@@ -32,7 +32,7 @@ pub record Position : Type 0 where
   pub rear : ℕ
   pub under : ℕ
 
--- how many REQUESTs there were, and how often an authority came into force; authorities, trains and blocks by number
+-- how many REQUESTs there were, and how often an authority came into force (`grants`); authorities, trains and blocks by number
 pub record Reckoning : Type 0 where
   pub requests : ℕ
   pub grants : ℕ
