@@ -1,4 +1,4 @@
-// The conditions for refusal that are a search or a reckoning of their own, on the board in the lent arrays: full, unprotected, occupied, overlapping, still needed, and
+// The conditions for refusal that are a search or a sum of their own, on the board in the lent arrays: full, unprotected, occupied, overlapping, still needed, and
 // those on terms (02, order 1).
 ghost use mathlib.Core.Path.{_≡_};
 ghost use Rattle.rules.specs.Refusals.{full, unprotected, occupied, occupiedBeside, overlaps, stillNeeded, tooSoon, outsideTerm};

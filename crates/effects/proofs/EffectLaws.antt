@@ -21,7 +21,7 @@ use Rattle.rules.specs.declared.Register.{Register}
 use Rattle.rules.specs.Board.{boardOf, noAuthority, noTrain, isAuthority, isTrain, authority, train}
 use Rattle.rules.specs.Refusals.{Refusal, _when_, lowest, full, noRoom, own}
 use Rattle.places.specs.declared.head.Head.{Head}
-use Rattle.places.specs.Places.{authoritiesIn, trainsIn, registerIn, HeadBounds}
+use Rattle.places.specs.Places.{authoritiesIn, trainsIn, registerIn, boardIn, HeadBounds}
 use Rattle.authorities.specs.declared.Found.{Found}
 use Rattle.authorities.specs.declared.Found.the-variants as Found
 use Rattle.trains.specs.declared.FoundTrain.{FoundTrain}
@@ -30,7 +30,6 @@ use Rattle.authorities.specs.Authorities.{foundIn}
 use Rattle.trains.specs.Trains.{foundTrain}
 use Rattle.authorities.proofs.AuthorityLaws.{found-none}
 use Rattle.trains.proofs.TrainLaws.{train-none}
-use Rattle.places.specs.Places.{boardIn}
 use Rattle.places.proofs.Registers.{authorities-in-use, trains-in-use}
 use Rattle.effects.specs.Room.{HasRoom}
 

@@ -1,6 +1,6 @@
 -- Demands 1 and 2 of the rules: "the lowest number whose condition holds is given", accepted exactly where no condition holds, and
 -- what a refused call leaves; and the greatest answer. Assumes nothing.
-use Prim.Native.Nat.{ℕ, zero, _≤_, _<_}
+use Prim.Native.Nat.{ℕ, _≤_, _<_}
 use native.Mathlib.Omega.{arith}
 use mathlib.Core.Path.{_≡_, refl, sym, ap, _∙_}
 use mathlib.Core.Logic.{⊎-elim}

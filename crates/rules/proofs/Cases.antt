@@ -54,8 +54,8 @@ abbrev pub onTerm : ℕ → ℕ → ℕ → List Seven → List ℕ
 onTerm day time length calls =
     answers (Plan.openBoard planText) (at 600 1 1 1 1 7 ∷ at 600 4 1 0 0 0 ∷ at 600 14 1 day time length ∷ calls)
 
--- E10's two, a TWA in force over portion 1 and a pending TOA over 0 to 2, with a JOIN at that distance between: the answers of these six calls, after
--- the four BLOCKs, and of the calls that follow
+-- E10's two, a TWA in force over portion 1 and a pending TOA over 0 to 2, with a JOIN at that distance: the answers of the four BLOCKs, of these four
+-- calls and of the calls that follow
 abbrev pub onJoin : ℕ → List Seven → List ℕ
 onJoin distance calls =
     onBlocked (at 1 1 3 1 1 7 ∷ at 1 6 1 7 0 0 ∷ at 1 1 2 0 2 8 ∷ at 1 15 1 2 7 distance ∷ calls)

@@ -5,9 +5,8 @@ use native.Mathlib.Decide.{ℕ-discrete}
 use mathlib.Core.Path.{_≡_, refl, sym, ap, subst, subst₂, _∙_}
 use mathlib.Core.Bool.{true, false, not, false≢true}
 use mathlib.Core.List.{List}
-use lib.Dec.{eqb}
 use borrow.Author.Tests.{eqb-true, eqb-false, eq-eqb, ne-eqb, not-true}
-use Rattle.lists.specs.Search.{first, keep, change}
+use Rattle.lists.specs.Search.{first}
 use Rattle.lists.proofs.Search.{Member, first-found, kept, change-each}
 use Rattle.lists.proofs.Distinct.{Taken, taken-change, taken-keep}
 use Rattle.portions.specs.Sets.{has}

@@ -8,7 +8,7 @@ use mathlib.Core.Bool.{Bool, true, false, cond, not, _&&_, _||_, false≢true}
 use lib.ListN.{length}
 use lib.Dec.{eqb, leb}
 use borrow.Author.Tests.{eqb-true, eqb-false, eq-eqb, ne-eqb, le-leb}
-use Rattle.lists.specs.Search.{below, change}
+use Rattle.lists.specs.Search.{below}
 use Rattle.lists.proofs.Tests.{truth, clash, told, shown, and-i, and-no-r, or-cases, or-yes-l, or-yes-r, not-no}
 use Rattle.lists.proofs.Search.{Member, any-no, below-has, change-each}
 use Rattle.lists.proofs.Distinct.{taken-change}

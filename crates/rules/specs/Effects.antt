@@ -176,5 +176,5 @@ effect b (Passed t) =
     b
 -- TERM
 effect b (Term n day time length) = withAuthorities (amended (n .0) (withTerm (minuteOf day time) length) (b .authorities)) b
--- JOIN
+-- JOIN: "The TOA records the TWA"
 effect b (Join twa toa officer distance) = withAuthorities (amended (toa .0) (withAgreed twa) (b .authorities)) b

@@ -92,6 +92,7 @@ asForced since x = record {
   joined = x .joined;
 }
 
+-- "until its FULFIL, or a CONTINUE as old"
 abbrev pub asEnded : Reckoned → Reckoned
 asEnded x = record {
   kind = x .kind;
@@ -213,6 +214,7 @@ reckon gates r (Move t g n officer) = withTrains (put (t .0) (asMoved (gateAt ga
 reckon gates r (Passed t) = withTrains (put (t .0) (asPassed (r .train (t .0))) (r .train)) r
 -- TERM (02, order 1) changes nothing here: demand 3 speaks of what is in force, and a term is no part of that
 reckon gates r (Term n day time length) = r
+-- JOIN (02, order 4): of the TOA, as AGREE is of the TWA
 reckon gates r (Join twa toa officer distance) = withAuthorities (put (toa .0) (asJoined (twa .0) (r .authority (toa .0))) (r .authority)) r
 
 -- ---- "The reckoning of demand 3 reads the list in order: each call's seven numbers and its answer"
