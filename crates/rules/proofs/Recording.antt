@@ -235,11 +235,10 @@ module _ (b : Board) (r : Reckoning.Reckoning) (F : Follows b r) (S : Safe (b .g
     taker-kind : (a : Authority) → y .kind ≡ a .kind → a .kind ≡ authority b (taker .0) .kind
     taker-kind a k = sym k ∙ here b r F (taker .0) live-taker .kind
 
-    pub follows-recorded : x .kind ≡ y .kind → x .first ≡ y .first → x .last ≡ y .last → x .inForce ≡ y .inForce → x .since ≡ y .since
-        → x .workersOn ≡ y .workersOn
+    pub follows-recorded : x .kind ≡ y .kind → x .first ≡ y .first → x .last ≡ y .last → x .inForce ≡ y .inForce → x .workersOn ≡ y .workersOn
         → (authority b (taker .0) .kind ≡ Twa → x .agreed ≡ by .0) → (authority b (taker .0) .kind ≡ Toa → x .joined ≡ by .0)
         → Follows (withAuthorities (amended (taker .0) (withAgreed by) (b .authorities)) b) (reckonedAs r (r .requests) (r .grants) (taker .0) x)
-    follows-recorded ke fe le fo si wo ag jo =
+    follows-recorded ke fe le fo wo ag jo =
         follows-amended b r F (taker .0) (withAgreed by) x (r .grants) (λ a. refl) ke
         (λ a h.
         held-anew y x a (withAgreed by a) h refl refl refl ke fe le (fo ∙ h .force) (λ e. wo ∙ h .site e)
@@ -265,7 +264,7 @@ module _ (b : Board) (r : Reckoning.Reckoning) (F : Follows b r) (S : Safe (b .g
       let gives : authority b (toa .0) .kind ≡ giver (authority b (twa .0) .kind) = k1 ∙ ap giver (sym k2) in
       record {
         follows =
-            follows-recorded toa twa x l1 l2 waits gives refl refl refl refl refl refl (λ k. refl)
+            follows-recorded toa twa x l1 l2 waits gives refl refl refl refl refl (λ k. refl)
             (λ k. absurd (false≢true (ap isToa (sym k2 ∙ k))));
         safe = safe-recorded toa twa x l1 l2 waits gives refl;
       }
@@ -282,7 +281,7 @@ module _ (b : Board) (r : Reckoning.Reckoning) (F : Follows b r) (S : Safe (b .g
       let gives : authority b (twa .0) .kind ≡ giver (authority b (toa .0) .kind) = k1 ∙ ap giver (sym k2) in
       record {
         follows =
-            follows-recorded twa toa x l1 l2 waits gives refl refl refl refl refl refl
+            follows-recorded twa toa x l1 l2 waits gives refl refl refl refl refl
             (λ k. absurd (false≢true (ap isTwa (sym k2 ∙ k)))) (λ k. refl);
         safe = safe-recorded twa toa x l1 l2 waits gives refl;
       }
