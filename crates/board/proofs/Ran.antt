@@ -11,6 +11,8 @@ use denote.Ref.{now}
 use denote.Triple.Clauses.{AtExit}
 use borrow.Fn.Kinds.{Dens, endedOf}
 use Rattle.lists.specs.Search.{any}
+use Rattle.lists.specs.Distinct.{Distinct}
+use Rattle.lists.specs.Order.{Ascending}
 use Rattle.lists.proofs.Tests.{or-no}
 use Rattle.lists.proofs.Search.{Member}
 use Rattle.rules.specs.declared.Authority.{Authority}
@@ -18,7 +20,7 @@ use Rattle.rules.specs.declared.Seven.{Seven}
 use Rattle.rules.specs.declared.Opened.{Opened}
 use Rattle.rules.specs.declared.Called.{Called}
 use Rattle.rules.specs.declared.Register.{Register}
-use Rattle.rules.specs.Board.{Board, boardOf, authorityNo, Same}
+use Rattle.rules.specs.Board.{Board, boardOf, authorityNo, trainNo, Same}
 use Rattle.rules.specs.Plan.{openBoard}
 use Rattle.rules.specs.Refusals.{conditions, answer}
 use Rattle.rules.specs.Journal.{journalLine}
@@ -26,6 +28,7 @@ use Rattle.rules.specs.Step.{Made, Answered, after, trace, final, Kept}
 use Rattle.rules.specs.Reckoning.{start, reckoned}
 use Rattle.rules.specs.Claim.{Safe}
 use Rattle.rules.proofs.Answers.{NoneHolds, Refused, accepted-none, none-accepted, refused-lowest, lowest-refused, refused-same, refused-none, short-line, long-line}
+use Rattle.rules.proofs.Once.{held-once}
 use Rattle.rules.proofs.Equality.{equal-same}
 use Rattle.rules.proofs.Safety.{demand-3}
 use Rattle.rules.proofs.Terms.{ended-by, StaysIn, term-stays}
@@ -58,6 +61,15 @@ ran-kept (ran-call κs a out x h p) = p .kept
 -- THEOREM: after any run the next call's `requires` holds
 pub ran-asked : {text : List ℕ} {ms : List Made} {cs : List Answered} (κs : Lfts 1) (a : Dens κs call-kinds.ps) → Ran text ms cs (a .0) → call-reads.Pre κs a
 ran-asked κs a h = ran-kept h
+
+-- THEOREM, order 5: live authorities and trains of every register that `open` or `call` returned are held by ascending number, and so each once
+pub ran-ascending : {text : List ℕ} {ms : List Made} {cs : List Answered} {r : Register} → Ran text ms cs r
+    → Ascending authorityNo (boardOf r .authorities) × Ascending trainNo (boardOf r .trains)
+ran-ascending h = let o = ran-kept h .once in (o .authorities, o .trains)
+
+pub ran-once : {text : List ℕ} {ms : List Made} {cs : List Answered} {r : Register} → Ran text ms cs r
+    → Distinct authorityNo (boardOf r .authorities) × Distinct trainNo (boardOf r .trains)
+ran-once {r = r} h = held-once (boardOf r) (ran-kept h .once)
 
 -- ---- a run gives the answers and the boards of the rules
 

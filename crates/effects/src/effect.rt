@@ -112,7 +112,7 @@ fn move_train(
             rear: gate.to,
             with: n,
         };
-        trains::add_train(trains, head.running, entered);
+        trains::insert_train(trains, head.running, entered);
         out.running = head.running + 1;
     } else {
         trains::change_trains(trains, head.running, TrainChange::Head(t, gate.to, n));

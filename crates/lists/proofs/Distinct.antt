@@ -1,45 +1,21 @@
--- Distinct numbers: what keeps them distinct, and what they tell. Assumes nothing.
+-- Numbers of elements: free, kept by a change, taken; and what distinct numbers tell. Assumes nothing.
 use Prim.Native.Nat.{ℕ}
 use mathlib.Core.Path.{_≡_, refl, sym, _∙_}
 use mathlib.Core.Logic.{_⊎_, inl, inr}
 use mathlib.Core.Bool.{Bool, true, false, cond}
-use mathlib.Core.List.{List, [], _∷_, _++_, List·Memᴰ·cases-cons}
-use borrow.Author.Tests.{eq-eqb, ne-eqb, eqb-false}
+use mathlib.Core.List.{List, [], _∷_, List·Memᴰ·cases-cons}
+use borrow.Author.Tests.{eq-eqb}
 use Rattle.lists.specs.Search.{any, keep, change}
 use Rattle.lists.specs.Distinct.{numbered, Distinct}
-use Rattle.lists.proofs.Tests.{clash, or-no, or-no-l, or-no-r}
-use Rattle.lists.proofs.Search.{Member, any-no, any-none, any-append, kept, keeps, changes-to, changed}
+use Rattle.lists.proofs.Tests.{clash}
+use Rattle.lists.proofs.Search.{Member, any-no, keeps, changes-to, changed}
 
 module _ {A : Type 0} (number : A → ℕ) where
   -- no element has the number n
   abbrev pub Free : ℕ → List A → Type 0
   Free n xs = any (numbered number n) xs ≡ false
 
-  -- ---- what keeps the numbers distinct
-
-  -- one with a free number, put at the end
-  pub distinct-append : (xs : List A) (x : A) → Distinct number xs → Free (number x) xs → Distinct number (xs ++ (x ∷ []))
-  unfolding Distinct any
-  distinct-append [] x u h = (refl, tt)
-  distinct-append (y ∷ ys) x u h =
-      let differ = eqb-false (number y) (number x) (or-no-l (numbered number (number x) y) (any (numbered number (number x)) ys) h) in
-      let alone = or-no (numbered number (number y) x) false (ne-eqb (number x) (number y) (λ e. differ (sym e))) refl in (
-        any-append (numbered number (number y)) ys (x ∷ []) ∙ or-no (any (numbered number (number y)) ys) _ (u .0) alone,
-        distinct-append ys x (u .1) (or-no-r (numbered number (number x) y) (any (numbered number (number x)) ys) h),
-      )
-
-  keep-step : (test : A → Bool) (y : A) (ys : List A) (t : Bool) → Free (number y) ys → Distinct number (keep test ys)
-      → Distinct number (cond t (y ∷ keep test ys) (keep test ys))
-  unfolding Distinct
-  keep-step test y ys true h u =
-      (any-none (numbered number (number y)) (keep test ys) (λ x m. any-no (numbered number (number y)) ys h x (kept test ys x m .member)), u)
-  keep-step test y ys false h u = u
-
-  -- some of them
-  pub distinct-keep : (test : A → Bool) (xs : List A) → Distinct number xs → Distinct number (keep test xs)
-  unfolding Distinct keep
-  distinct-keep test [] u = tt
-  distinct-keep test (y ∷ ys) u = keep-step test y ys (test y) (u .0) (distinct-keep test ys (u .1))
+  -- ---- a change that keeps each number
 
   module _ (test : A → Bool) (f : A → A) (same : (x : A) → number (f x) ≡ number x) where
     same-step : (x : A) (t : Bool) → number (cond t (f x) x) ≡ number x
@@ -48,17 +24,6 @@ module _ {A : Type 0} (number : A → ℕ) where
 
     pub changed-number : (x : A) → number (changed test f x) ≡ number x
     changed-number x = same-step x (test x)
-
-    -- a change that keeps each number leaves the same numbers taken
-    pub free-change : (n : ℕ) (xs : List A) → any (numbered number n) (change test f xs) ≡ any (numbered number n) xs
-    unfolding any change
-    free-change n [] = refl
-    free-change n (x ∷ xs) = rw (changed-number x, free-change n xs)
-
-    pub distinct-change : (xs : List A) → Distinct number xs → Distinct number (change test f xs)
-    unfolding Distinct change
-    distinct-change [] u = tt
-    distinct-change (x ∷ xs) u = (rw (changed-number x) (free-change (number x) xs ∙ u .0), distinct-change xs (u .1))
 
   -- ---- a number that an element has
 

@@ -3,4 +3,5 @@ pub mod Tests
 pub mod Search
 pub mod Prefix
 pub mod Distinct
+pub mod Order
 pub mod Loops

@@ -1,20 +1,24 @@
 -- The loops over the first `count` of 32 places, for any type of element: a search that is left at the first that passes, a change in place,
--- a removal in place that keeps the order, and one more at the end. Of each loop: what holds where place i is next, then its start, a turn
+-- a removal in place that keeps the order, and one more, inserted by its number or put at the end. Of each loop: what holds where place i is next, then its start, a turn
 -- where the element at i passes, one where it does not, and its end. The list read is the list stored into: l is that of the start, `now`
 -- that of this turn, `next` that of the turn after. Assumes nothing.
 use Prim.Native.Nat.{ℕ, _+_, _≤_, _<_}
 use native.Mathlib.Omega.{arith}
 use native.Mathlib.Nat.{add-zero}
 use mathlib.Core.Path.{_≡_, refl, sym, _∙_}
-use mathlib.Core.Bool.{Bool, true, false, cond, _||_, true≢false}
+use mathlib.Core.Bool.{Bool, true, false, cond, _||_, true≢false, or-false}
 use mathlib.Core.List.{List, [], _∷_, _++_}
 use lib.ListN.{length, drop, getD, set, length-set}
+use lib.Dec.{ltb}
 use lib.Seq.{getD-drop, drop-at, drop-drop, drop-set-lt}
 use Rattle.lists.specs.Search.{any, first, keep, change}
 use Rattle.lists.specs.Prefix.{prefix}
 use Rattle.lists.specs.Places.{Holds}
-use Rattle.lists.proofs.Search.{length-change}
-use Rattle.lists.proofs.Prefix.{any-hit, any-miss, any-end, first-hit, first-miss, length-prefix, prefix-none, stored-last, keep-hit, keep-miss}
+use Rattle.lists.specs.Order.{insertBy}
+use Rattle.lists.proofs.Tests.{clash, or-no-l}
+use Rattle.lists.proofs.Search.{any-append, length-change}
+use Rattle.lists.proofs.Order.{higher, insert-behind, insert-last}
+use Rattle.lists.proofs.Prefix.{any-hit, any-miss, any-end, first-hit, first-miss, length-prefix, prefix-next, prefix-none, stored-last, keep-hit, keep-miss}
 use Rattle.lists.proofs.Prefix.{changedTo, change-start, change-hit, change-miss, change-end}
 
 -- the loop is at place i of those in use, or behind the last; the list has 32 places
@@ -221,3 +225,73 @@ module _ {A : Type 0} {test : A → Bool} {l now : List A} {count i j : ℕ} (at
 pub one-more : {A : Type 0} (l : List A) {now : List A} (count : ℕ) (x : A) → length l ≡ 32 → count < 32 → now ≡ set l count x
     → prefix (count + 1) now ≡ prefix count l ++ (x ∷ [])
 one-more l count x places room stored = rw stored (stored-last l count x (omega arith))
+
+-- ---- one more, inserted by its number
+
+-- the first i places and the one in hand are those before i with x inserted; those from i on are as they were; and until a higher number has been
+-- met, x is in hand and nothing is changed
+pub record Inserting {A : Type 0} (number : A → ℕ) (x : A) (l now : List A) (count i : ℕ) (hand : A) (met : Bool) : Type 0 where
+  pub place : Reached l count i
+  pub room : length now ≡ 32
+  pub so-far : prefix i now ++ (hand ∷ []) ≡ insertBy number x (prefix i l)
+  pub higher-met : met ≡ any (higher number x) (prefix i l)
+  pub rest : drop i now ≡ drop i l
+  pub waiting : met ≡ false → (hand ≡ x) × (now ≡ l)
+
+pub inserting-start : {A : Type 0} {number : A → ℕ} {x : A} {l : List A} {count : ℕ} → count < 32 → length l ≡ 32 → Inserting number x l l count 0 x false
+unfolding insertBy any
+inserting-start fits places =
+    record { place = start (omega arith) places; room = places; so-far = rw prefix-none; higher-met = rw prefix-none; rest = refl; waiting = λ e. (refl, refl) }
+
+module _ {A : Type 0} {number : A → ℕ} {x : A} {l now : List A} {count i : ℕ} {hand : A} {met : Bool} (at : Inserting number x l now count i hand met) where
+  pub inserting-end : count ≤ i → count < 32 → {next : List A} → next ≡ set now count hand
+      → prefix (count + 1) next ≡ insertBy number x (prefix count l)
+  inserting-end over fits stored =
+      let p = at .place in
+      rw (stored, stored-last now count hand (omega (arith, at .room))) (rw (last p over) at (at .so-far))
+
+  module _ (more : i < count) (d : A) {y : A} (here : y ≡ getD now i d) where
+    here-too : y ≡ getD l i d
+    here-too = same-at l now i d here (at .rest)
+
+    behind : drop (i + 1) now ≡ drop (i + 1) l
+    behind = sym (drop-drop 1 i now) ∙ rw (at .rest) (drop-drop 1 i l)
+
+    -- those before i + 1
+    one-further : prefix (i + 1) l ≡ prefix i l ++ (y ∷ [])
+    one-further = let p = at .place in rw here-too (prefix-next l i d (omega arith))
+
+    met-next : (met || ltb (number x) (number y)) ≡ any (higher number x) (prefix (i + 1) l)
+    unfolding any
+    met-next = rw (one-further, any-append (higher number x) (prefix i l) (y ∷ []), at .higher-met, or-false)
+
+    -- y is behind x: the one in hand takes its place, and y is in hand
+    pub inserting-hit : (met || ltb (number x) (number y)) ≡ true → {next : List A} {hand′ : A} {met′ : Bool} → next ≡ set now i hand → hand′ ≡ y → met′ ≡ true
+        → Inserting number x l next count (i + 1) hand′ met′
+    inserting-hit e stored taken is =
+        let p = at .place in
+        let some : any (higher number x) (prefix (i + 1) l) ≡ true = sym met-next ∙ e in
+        record {
+          place = further p more;
+          room = rw (stored, length-set) (at .room);
+          so-far = rw (stored, taken, stored-last now i hand (omega (arith, at .room)), at .so-far, one-further, insert-behind number x (prefix i l) y (rw one-further at some));
+          higher-met = is ∙ sym some;
+          rest = rw (stored, drop-set-lt (i + 1) now i hand (omega arith)) behind;
+          waiting = λ f. clash is f;
+        }
+
+    -- y is before x
+    pub inserting-miss : (met || ltb (number x) (number y)) ≡ false → {next : List A} {hand′ : A} {met′ : Bool} → next ≡ now → hand′ ≡ hand → met′ ≡ met
+        → Inserting number x l next count (i + 1) hand′ met′
+    inserting-miss e kept same unmet =
+        let p = at .place in
+        let none : any (higher number x) (prefix (i + 1) l) ≡ false = sym met-next ∙ e in
+        let w = at .waiting (or-no-l met (ltb (number x) (number y)) e) in
+        record {
+          place = further p more;
+          room = rw kept (at .room);
+          so-far = rw (kept, same, w .0, w .1, insert-last number x (prefix (i + 1) l) none);
+          higher-met = unmet ∙ or-no-l met (ltb (number x) (number y)) e ∙ sym none;
+          rest = rw kept behind;
+          waiting = λ f. (same ∙ w .0, kept ∙ w .1);
+        }

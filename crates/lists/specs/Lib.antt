@@ -3,3 +3,4 @@ pub mod Search
 pub mod Prefix
 pub mod Places
 pub mod Distinct
+pub mod Order

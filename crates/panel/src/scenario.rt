@@ -1,6 +1,7 @@
 // One scenario: a board opened from a plan's file, the calls of a second file put to it one by one, and their journal printed, or the sheet after
-// them.
+// them, or what the register then holds.
 ghost use Rattle.rules.specs.Step.{Kept};
+use crate::held::print_held;
 use folder::print;
 use folder::print_number;
 use folder::print_page;
@@ -74,11 +75,28 @@ pub fn run_files(plan: &[u8], calls: &[u8], printing: bool) -> Register
     put_lines(opened.register, &text[..n], printing)
 }
 
-// Prints the heading, and the journal of the calls or the sheet after them.
-pub fn scenario(heading: &[u8], plan: &[u8], calls: &[u8], sheet: bool) {
+// What is printed of a scenario.
+pub enum Shown {
+    // the journal of its calls
+    Journal,
+    // the shift sheet after them
+    Sheet,
+    // what the register then holds, in its order
+    Held,
+}
+
+// Prints the heading, and what is to be shown.
+pub fn scenario(heading: &[u8], plan: &[u8], calls: &[u8], shown: Shown) {
     print(heading);
-    let register = run_files(plan, calls, !sheet);
-    if sheet {
-        print_page(register);
+    match shown {
+        Shown::Journal => {
+            run_files(plan, calls, true);
+        }
+        Shown::Sheet => {
+            print_page(run_files(plan, calls, false));
+        }
+        Shown::Held => {
+            print_held(run_files(plan, calls, false));
+        }
     }
 }

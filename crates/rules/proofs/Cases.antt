@@ -1,9 +1,10 @@
--- The ten cases of 01 marked E, and those of 02's orders 1 and 4, from the rules by computation, in one joint theorem. Assumes nothing.
+-- The ten cases of 01 marked E, and those of 02's orders 1, 4 and 5, from the rules by computation, in one joint theorem. Assumes nothing.
 use Prim.Native.Nat.{ℕ}
 use mathlib.Core.Path.{_≡_, refl}
-use mathlib.Core.List.{List, [], _∷_, _++_}
+use mathlib.Core.List.{List, [], _∷_, _++_, map}
 use lib.ListN.{replicate}
 use Rattle.lists.specs.Search as Search
+use Rattle.lists.specs.Order as Order
 use Rattle.columns.specs.Text.{bytes}
 use Rattle.columns.specs.Column as Column
 use Rattle.columns.specs.Line as Line
@@ -60,6 +61,16 @@ abbrev pub onJoin : ℕ → List Seven → List ℕ
 onJoin distance calls =
     onBlocked (at 1 1 3 1 1 7 ∷ at 1 6 1 7 0 0 ∷ at 1 1 2 0 2 8 ∷ at 1 15 1 2 7 distance ∷ calls)
 
+-- the numbers of the trains on the board after a list of calls, in the register's order
+unfoldable pub trainsAfter : Board.Board → List Seven → List ℕ
+trainsAfter b [] = map Board.trainNo (b .trains)
+trainsAfter b (s ∷ ss) = trainsAfter (Step.after b s 55) ss
+
+-- train 3 enters and goes on to portion 2, then 1 enters and goes on to portion 1, then 2 enters
+abbrev pub threeEnter : List Seven
+threeEnter =
+    at 1 12 3 0 0 0 ∷ at 1 12 3 1 0 0 ∷ at 1 13 3 0 0 0 ∷ at 1 12 3 2 0 0 ∷ at 1 13 3 0 0 0 ∷ at 1 12 1 0 0 0 ∷ at 1 12 1 1 0 0 ∷ at 1 13 1 0 0 0 ∷ at 1 12 2 0 0 0 ∷ []
+
 pub record Cases : Type 0 where
   -- E1 to E6: the whole output for six calls, byte for byte
   pub journal : printed (Plan.openBoard planText)
@@ -95,7 +106,10 @@ pub record Cases : Type 0 where
   -- order 4: the TWA is cleared and fulfilled and another over the same portion comes into force: the JOIN names the first, so 13
   pub another : onJoin 500 (at 1 7 1 7 0 0 ∷ at 1 10 1 7 7 0 ∷ at 1 1 3 1 1 9 ∷ at 1 6 3 9 0 0 ∷ at 1 6 2 8 0 0 ∷ [])
       ≡ 0 ∷ 0 ∷ 0 ∷ 0 ∷ 0 ∷ 0 ∷ 0 ∷ 0 ∷ 0 ∷ 0 ∷ 0 ∷ 0 ∷ 13 ∷ []
+  -- order 5: trains that enter as 3, 1, 2 are held as 1, 2, 3, and once 3 has left as 1, 2
+  pub entered : trainsAfter (Plan.openBoard planText) threeEnter ≡ 1 ∷ 2 ∷ 3 ∷ []
+  pub left : trainsAfter (Plan.openBoard planText) (threeEnter ++ (at 1 12 3 3 0 0 ∷ at 1 13 3 0 0 0 ∷ [])) ≡ 1 ∷ 2 ∷ []
 
 pub cases : Cases
-unfolding planText printed answers bytes Search.any Search.first Search.keep Search.change Search.below Column.digitsIn Column.digits Column.column Line.line Reading.sameText Reading.valueFrom Reading.isColumn Reading.readColumn Reading.firstColumn Reading.rowOf Sets.has Sets.setOf Sets.run Sets.insert Sets.remove Sets.shares Board.opened Board.closed Board.live Board.authority Board.touches Board.needs Call.isDay Call.isTime Call.minuteOf Call.inRange Call.inRanges Call.calls Call.entryOf Call.isCall Call.named Call.inForm Refusals.lowest Refusals.early Refusals.notLive Refusals.notOfficer Refusals.notToAgree Refusals.notToJoin Refusals.restsOn Refusals.notAtDistance Refusals.full Refusals.isOpen Refusals.unprotected Refusals.occupied Refusals.clashes Refusals.overlaps Refusals.inForceNeeds Refusals.stillNeeded Refusals.minute Refusals.notPendingLpa Refusals.tooSoon Refusals.inTerm Refusals.outsideTerm Refusals.own Refusals.conditions Refusals.answer Effects.effect Plan.planLine Plan.planNumber Plan.isHead Plan.isPlace Plan.isGate Plan.gateOn Plan.areGates Plan.gatesOn Plan.isPlan Plan.openBoard Journal.journalLine Journal.lineAfter Step.after Step.allotted
-cases = record { journal = refl; e7 = refl; e8 = refl; e9 = refl; e10 = refl; lpa = refl; notice = refl; week = refl; start = refl; end = refl; over = refl; nearest = refl; farthest = refl; too-near = refl; too-far = refl; another = refl }
+unfolding planText printed answers trainsAfter bytes Search.any Search.first Search.keep Search.change Search.below Order.insertBy Column.digitsIn Column.digits Column.column Line.line Reading.sameText Reading.valueFrom Reading.isColumn Reading.readColumn Reading.firstColumn Reading.rowOf Sets.has Sets.setOf Sets.run Sets.insert Sets.remove Sets.shares Board.opened Board.closed Board.live Board.authority Board.onBoard Board.train Board.touches Board.touchesPortion Board.needs Call.isDay Call.isTime Call.minuteOf Call.inRange Call.inRanges Call.calls Call.entryOf Call.isCall Call.named Call.inForm Refusals.lowest Refusals.early Refusals.notLive Refusals.notOfficer Refusals.notToAgree Refusals.notToJoin Refusals.restsOn Refusals.notAtDistance Refusals.isE Refusals.isW Refusals.anyE Refusals.anyW Refusals.theW Refusals.noRoom Refusals.isOtherAt Refusals.taken Refusals.workedOn Refusals.isAt Refusals.notThere Refusals.barred Refusals.pilot Refusals.notPiloted Refusals.full Refusals.isOpen Refusals.unprotected Refusals.occupied Refusals.clashes Refusals.overlaps Refusals.inForceNeeds Refusals.stillNeeded Refusals.minute Refusals.notPendingLpa Refusals.tooSoon Refusals.inTerm Refusals.outsideTerm Refusals.own Refusals.conditions Refusals.answer Effects.effect Plan.planLine Plan.planNumber Plan.isHead Plan.isPlace Plan.isGate Plan.gateOn Plan.areGates Plan.gatesOn Plan.isPlan Plan.openBoard Journal.journalLine Journal.lineAfter Step.after Step.allotted
+cases = record { journal = refl; e7 = refl; e8 = refl; e9 = refl; e10 = refl; lpa = refl; notice = refl; week = refl; start = refl; end = refl; over = refl; nearest = refl; farthest = refl; too-near = refl; too-far = refl; another = refl; entered = refl; left = refl }

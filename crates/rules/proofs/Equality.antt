@@ -1,14 +1,18 @@
 -- What contracts equate is equal by 01 too: equal boards are `Same`, and `Same` is an equality. Assumes nothing.
 use mathlib.Core.Path.{_≡_, refl, sym, ap, subst, _∙_}
-use mathlib.Core.List.{List}
+use mathlib.Core.List.{List, [], _∷_}
 use Rattle.rules.specs.declared.Authority.{Authority}
 use Rattle.rules.specs.declared.Kind.{Kind}
 use Rattle.rules.specs.declared.Kind.the-variants.{Lpa, Toa, Twa}
 use Rattle.rules.specs.Call.{kindOf}
-use Rattle.rules.specs.Board.{Board, kindNo, isToa, isTwa, SameAuthority, EachIn, Same}
+use Rattle.rules.specs.Board.{Board, kindNo, isToa, isTwa, SameAuthority, InOrder, Same}
 
 same-authority : (a : Authority) → SameAuthority a a
 same-authority a = record { number = refl; kind = refl; limits = refl; officer = refl; stage = refl; site = refl; agreed = λ t f. refl; joined = λ t f. refl; start = refl; length = refl }
+
+in-order-refl : (xs : List Authority) → InOrder SameAuthority xs xs
+in-order-refl [] = tt
+in-order-refl (x ∷ xs) = (same-authority x, in-order-refl xs)
 
 pub same-refl : (b : Board) → Same b b
 same-refl b = record {
@@ -18,10 +22,8 @@ same-refl b = record {
   time = refl;
   last = refl;
   blocks = refl;
-  authorities = λ a m. (a, m, same-authority a);
-  authorities′ = λ a m. (a, m, same-authority a);
-  trains = λ t m. (t, m, refl);
-  trains′ = λ t m. (t, m, refl);
+  authorities = in-order-refl (b .authorities);
+  trains = refl;
 }
 
 -- THEOREM: boards that a contract equates, list for list, are equal by 01
@@ -43,12 +45,27 @@ then-authority x y z s t = record {
   length = s .length ∙ t .length;
 }
 
-each-then : {A : Type 0} (Like : A → A → Type 0) → ((x y z : A) → Like x y → Like y z → Like x z) → (xs ys zs : List A)
-    → EachIn Like xs ys → EachIn Like ys zs → EachIn Like xs zs
-each-then Like join xs ys zs f g x m =
-    let (y, my, p) = f x m in
-    let (z, mz, q) = g y my in
-    (z, mz, join x y z p q)
+turn-authority : (x y : Authority) → SameAuthority x y → SameAuthority y x
+turn-authority x y s = record {
+  number = sym (s .number);
+  kind = sym (s .kind);
+  limits = sym (s .limits);
+  officer = sym (s .officer);
+  stage = sym (s .stage);
+  site = sym (s .site);
+  agreed = λ w f. sym (s .agreed (ap isTwa (s .kind) ∙ w) (s .stage ∙ f));
+  joined = λ w f. sym (s .joined (ap isToa (s .kind) ∙ w) (s .stage ∙ f));
+  start = sym (s .start);
+  length = sym (s .length);
+}
+
+in-order-sym : (xs ys : List Authority) → InOrder SameAuthority xs ys → InOrder SameAuthority ys xs
+in-order-sym [] [] s = tt
+in-order-sym (x ∷ xs) (y ∷ ys) s = (turn-authority x y (s .0), in-order-sym xs ys (s .1))
+
+in-order-trans : (xs ys zs : List Authority) → InOrder SameAuthority xs ys → InOrder SameAuthority ys zs → InOrder SameAuthority xs zs
+in-order-trans [] [] [] s t = tt
+in-order-trans (x ∷ xs) (y ∷ ys) (z ∷ zs) s t = (then-authority x y z (s .0) (t .0), in-order-trans xs ys zs (s .1) (t .1))
 
 pub same-sym : (b c : Board) → Same b c → Same c b
 same-sym b c s = record {
@@ -58,10 +75,8 @@ same-sym b c s = record {
   time = sym (s .time);
   last = sym (s .last);
   blocks = sym (s .blocks);
-  authorities = s .authorities′;
-  authorities′ = s .authorities;
-  trains = s .trains′;
-  trains′ = s .trains;
+  authorities = in-order-sym (b .authorities) (c .authorities) (s .authorities);
+  trains = sym (s .trains);
 }
 
 pub same-trans : (b c d : Board) → Same b c → Same c d → Same b d
@@ -72,10 +87,8 @@ same-trans b c d s t = record {
   time = s .time ∙ t .time;
   last = s .last ∙ t .last;
   blocks = s .blocks ∙ t .blocks;
-  authorities = each-then SameAuthority then-authority (b .authorities) (c .authorities) (d .authorities) (s .authorities) (t .authorities);
-  authorities′ = each-then SameAuthority then-authority (d .authorities) (c .authorities) (b .authorities) (t .authorities′) (s .authorities′);
-  trains = each-then (λ x y. x ≡ y) (λ x y z p q. p ∙ q) (b .trains) (c .trains) (d .trains) (s .trains) (t .trains);
-  trains′ = each-then (λ x y. x ≡ y) (λ x y z p q. p ∙ q) (d .trains) (c .trains) (b .trains) (t .trains′) (s .trains′);
+  authorities = in-order-trans (b .authorities) (c .authorities) (d .authorities) (s .authorities) (t .authorities);
+  trains = s .trains ∙ t .trains;
 }
 
 -- the kinds and 01's numbers for them are one to one

@@ -2,8 +2,8 @@
 pub mod Cases
 pub mod Answers
 pub mod Accepted
-pub mod Once
 pub mod Opening
+pub mod Once
 pub mod Follows
 pub mod Claims
 pub mod Recording

@@ -4,12 +4,13 @@ use native.Mathlib.Decide.{ℕ-discrete}
 use mathlib.Core.Path.{_≡_, refl, sym, ap, subst, _∙_}
 use mathlib.Core.Logic.{inl, inr, ⊎-elim}
 use mathlib.Core.Bool.{Bool, true, false, cond, not, _&&_, false≢true}
-use mathlib.Core.List.{[], _∷_, _++_, List·Memᴰ·head, Memᴰ·append-left, Memᴰ·append-right, List·Memᴰ·append-cases, List·Memᴰ·eq-of-singleton}
 use borrow.Author.Tests.{eqb-true, eqb-false}
 use Rattle.lists.specs.Search.{any, first}
+use Rattle.lists.specs.Order.{insertBy}
 use Rattle.lists.proofs.Tests.{clash, told, shown, and-no-r, not-no}
 use Rattle.lists.proofs.Search.{Member, any-no, any-yes, first-found}
 use Rattle.lists.proofs.Distinct.{Taken, taken-change}
+use Rattle.lists.proofs.Order.{inserted-from, inserted-into}
 use Rattle.portions.specs.Sets.{has}
 use Rattle.rules.specs.declared.AuthorityNo.{AuthorityNo}
 use Rattle.rules.specs.declared.TrainNo.{TrainNo}
@@ -132,7 +133,7 @@ module _ (b : Board) (r : Reckoning.Reckoning) (F : Follows b r) (S : Safe (b .g
     unfolding effect reckon own conditionAt notThere onBoard notPiloted
     keeps-move t g n officer ok = record {
       follows =
-          follows-trains b r F (cond (isOutside (gate .from)) (b .trains ++ (fresh ∷ [])) (moved (t .0) f (b .trains))) (put (t .0) y (r .train))
+          follows-trains b r F (cond (isOutside (gate .from)) (insertBy trainNo fresh (b .trains)) (moved (t .0) f (b .trains))) (put (t .0) y (r .train))
           (all-placed (isOutside (gate .from)) refl) (all-run (isOutside (gate .from)) refl);
       safe =
           record {
@@ -188,23 +189,24 @@ module _ (b : Board) (r : Reckoning.Reckoning) (F : Follows b r) (S : Safe (b .g
         new-placed e = record { onBoard = refl; head = refl; rear = rear-is true e; under = λ z. refl }
 
         all-placed : (z : Bool) → isOutside (gate .from) ≡ z
-            → AllPlaced (put (t .0) y (r .train)) (cond z (b .trains ++ (fresh ∷ [])) (moved (t .0) f (b .trains)))
+            → AllPlaced (put (t .0) y (r .train)) (cond z (insertBy trainNo fresh (b .trains)) (moved (t .0) f (b .trains)))
         all-placed true e o m =
-            ⊎-elim (λ k. subst (λ (u : Position). Placed u o) (sym (put-other (t .0) y (r .train) (trainNo o) (others e o k))) (F .placed o k))
+            ⊎-elim
             (λ q.
-            subst (λ (k : Train). Placed (put (t .0) y (r .train) (trainNo k)) k) (sym (List·Memᴰ·eq-of-singleton q))
+            subst (λ (k : Train). Placed (put (t .0) y (r .train) (trainNo k)) k) (sym q)
             (subst (λ (u : Position). Placed u fresh) (sym (put-same (t .0) y (r .train))) (new-placed e)))
-            (List·Memᴰ·append-cases (b .trains) m)
+            (λ k. subst (λ (u : Position). Placed u o) (sym (put-other (t .0) y (r .train) (trainNo o) (others e o k))) (F .placed o k))
+            (inserted-from trainNo fresh (b .trains) o m)
         all-placed false e o m =
             placed-moved (t .0) f (λ o. refl) y (r .train) (b .trains)
             (λ o h. record { onBoard = refl; head = refl; rear = rear-is false e ∙ h .rear; under = λ z. refl }) (F .placed) o m
 
         all-run : (z : Bool) → isOutside (gate .from) ≡ z → (m : ℕ) → put (t .0) y (r .train) m .onBoard ≡ true
-            → Taken trainNo (cond z (b .trains ++ (fresh ∷ [])) (moved (t .0) f (b .trains))) m
+            → Taken trainNo (cond z (insertBy trainNo fresh (b .trains)) (moved (t .0) f (b .trains))) m
         all-run true e =
-            put-all (λ (m : ℕ) (u : Position). u .onBoard ≡ true → Taken trainNo (b .trains ++ (fresh ∷ [])) m) (t .0) y (r .train)
-            (λ on. (fresh, Memᴰ·append-right (b .trains) (List·Memᴰ·head refl), refl))
-            (λ m ne on. let (o, k, q) = F .runs m on in (o, Memᴰ·append-left (fresh ∷ []) k, q))
+            put-all (λ (m : ℕ) (u : Position). u .onBoard ≡ true → Taken trainNo (insertBy trainNo fresh (b .trains)) m) (t .0) y (r .train)
+            (λ on. (fresh, inserted-into trainNo fresh (b .trains) fresh (inl refl), refl))
+            (λ m ne on. let (o, k, q) = F .runs m on in (o, inserted-into trainNo fresh (b .trains) o (inr k), q))
         all-run false e =
             put-all (λ (m : ℕ) (u : Position). u .onBoard ≡ true → Taken trainNo (moved (t .0) f (b .trains)) m) (t .0) y (r .train)
             (λ on. taken-change trainNo (isTrain (t .0)) f (λ o. refl) (b .trains) (t .0) (train-taken (t .0) (present e)))

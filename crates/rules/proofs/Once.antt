@@ -1,19 +1,21 @@
--- On every board that opening and calls return, each live authority and each train is held once, at most 32 of each, and numbers are
--- those allotted, 1 to 9999 at most. Assumes nothing.
+-- On every board that opening and calls return, live authorities and trains are held by ascending number, so each once, at most 32 of each, and
+-- numbers are those allotted, 1 to 9999 at most. Assumes nothing.
 use Prim.Native.Nat.{ℕ, suc, _≤_, _<_}
 use native.Mathlib.Omega.{arith}
-use mathlib.Core.Path.{_≡_, refl, ap}
+use mathlib.Core.Path.{_≡_, refl, sym, ap, subst}
 use mathlib.Core.Logic.{⊎-elim}
 use mathlib.Core.Bool.{Bool, true, false, cond}
 use mathlib.Core.List.{List, [], _∷_, _++_, List·Memᴰ·append-cases, List·Memᴰ·eq-of-singleton}
 use lib.ListN.{length, length-append}
 use lib.Dec.{eqb, leb}
-use borrow.Author.Tests.{eqb-true, leb-false, ne-eqb}
+use borrow.Author.Tests.{eqb-true, leb-false}
 use Rattle.lists.specs.Search.{any, keep, change}
-use Rattle.lists.specs.Distinct.{numbered, Distinct}
+use Rattle.lists.specs.Distinct.{Distinct}
+use Rattle.lists.specs.Order.{Ascending, insertBy}
 use Rattle.lists.proofs.Tests.{told, and-no-r}
-use Rattle.lists.proofs.Search.{any-none, kept, changes-from, length-keep, length-change}
-use Rattle.lists.proofs.Distinct.{distinct-append, distinct-keep, distinct-change, changed-number}
+use Rattle.lists.proofs.Search.{kept, changes-from, length-keep, length-change}
+use Rattle.lists.proofs.Distinct.{changed-number}
+use Rattle.lists.proofs.Order.{ascending-distinct, ascending-append, ascending-keep, ascending-change, ascending-insert, length-insert}
 use Rattle.portions.specs.Sets.{run}
 use Rattle.rules.specs.declared.Gate.{Gate}
 use Rattle.rules.specs.declared.Authority.{Authority}
@@ -24,10 +26,12 @@ use Rattle.rules.specs.declared.Call.the-variants.{NoSuchCall, BadField,
 use Rattle.rules.specs.Board.{Board, opened, isOutside, gateAt, authorityNo, trainNo, isAuthority, isTrain, isNotAuthority, isNotTrain, authority, onBoard, train, withAuthorities, withTrains, amended, ended, moved, gone}
 use Rattle.rules.specs.Call.{minuteOf, named}
 use Rattle.rules.specs.Refusals.{own, full, noRoom, notThere, answer}
+use Rattle.rules.specs.Plan.{openBoard}
 use Rattle.rules.specs.Effects.{requested, granted, withSite, withOfficer, withAgreed, withTerm, entered, withHead, withRearIn, isWith, continuedWith, effect}
 use Rattle.rules.specs.Step.{Once, after, Made, final}
 use Rattle.rules.proofs.Answers.{conditionAt}
 use Rattle.rules.proofs.Accepted.{Accepted, accepted}
+use Rattle.rules.proofs.Opening.{fresh}
 
 -- ---- the authorities changed, or some ended; the trains changed, or some gone; numbers kept
 
@@ -35,7 +39,7 @@ module _ (b : Board) (o : Once b) where
   once-change : (test : Authority → Bool) (f : Authority → Authority) → ((a : Authority) → authorityNo (f a) ≡ authorityNo a)
       → Once (withAuthorities (change test f (b .authorities)) b)
   once-change test f same = record {
-    authorities = distinct-change authorityNo test f same (b .authorities) (o .authorities);
+    authorities = ascending-change authorityNo test f same (b .authorities) (o .authorities);
     trains = o .trains;
     live = omega (arith, length-change test f (b .authorities), o .live);
     running = o .running;
@@ -48,7 +52,7 @@ module _ (b : Board) (o : Once b) where
 
   once-keep : (test : Authority → Bool) → Once (withAuthorities (keep test (b .authorities)) b)
   once-keep test = record {
-    authorities = distinct-keep authorityNo test (b .authorities) (o .authorities);
+    authorities = ascending-keep authorityNo test (b .authorities) (o .authorities);
     trains = o .trains;
     live = omega (arith, length-keep test (b .authorities), o .live);
     running = o .running;
@@ -56,10 +60,10 @@ module _ (b : Board) (o : Once b) where
     allotted = λ a m. o .allotted a (kept test (b .authorities) a m .member);
   }
 
-  once-trains : (ts : List Train) → Distinct trainNo ts → length ts ≤ 32 → Once (withTrains ts b)
-  once-trains ts distinct few = record {
+  once-trains : (ts : List Train) → Ascending trainNo ts → length ts ≤ 32 → Once (withTrains ts b)
+  once-trains ts ascends few = record {
     authorities = o .authorities;
-    trains = distinct;
+    trains = ascends;
     live = o .live;
     running = few;
     last = o .last;
@@ -69,12 +73,12 @@ module _ (b : Board) (o : Once b) where
   once-change-trains : (test : Train → Bool) (f : Train → Train) → ((t : Train) → trainNo (f t) ≡ trainNo t)
       → Once (withTrains (change test f (b .trains)) b)
   once-change-trains test f same =
-      once-trains (change test f (b .trains)) (distinct-change trainNo test f same (b .trains) (o .trains))
+      once-trains (change test f (b .trains)) (ascending-change trainNo test f same (b .trains) (o .trains))
       (omega (arith, length-change test f (b .trains), o .running))
 
   once-keep-trains : (test : Train → Bool) → Once (withTrains (keep test (b .trains)) b)
   once-keep-trains test =
-      once-trains (keep test (b .trains)) (distinct-keep trainNo test (b .trains) (o .trains))
+      once-trains (keep test (b .trains)) (ascending-keep trainNo test (b .trains) (o .trains))
       (omega (arith, length-keep test (b .trains), o .running))
 
 -- ---- one more
@@ -94,10 +98,8 @@ unfolding full
 once-request b o a room n =
     let few : length (b .authorities) < 32 = search (told, leb-false, room) in
     let low : b .last < 9999 = search (told, leb-false, room) in
-    let new : any (numbered authorityNo (authorityNo a)) (b .authorities) ≡ false =
-    any-none (numbered authorityNo (authorityNo a)) (b .authorities) (λ x m. ne-eqb (authorityNo x) (authorityNo a) (λ e. omega (arith, o .allotted x m))) in
     record {
-      authorities = distinct-append authorityNo (b .authorities) a (o .authorities) new;
+      authorities = ascending-append authorityNo (b .authorities) a (o .authorities) (λ x m. omega (arith, o .allotted x m));
       trains = o .trains;
       live = omega (arith, length-append (b .authorities) (a ∷ []));
       running = o .running;
@@ -108,12 +110,13 @@ once-request b o a room n =
 
 once-move : (b : Board) (o : Once b) (t : Train) (n : ℕ) (f : Train → Train) (gate : Gate) → trainNo t ≡ n → ((x : Train) → trainNo (f x) ≡ trainNo x)
     → noRoom b gate ≡ false → notThere b n gate ≡ false
-    → (z : Bool) → isOutside (gate .from) ≡ z → Once (withTrains (cond z (b .trains ++ (t ∷ [])) (moved n f (b .trains))) b)
+    → (z : Bool) → isOutside (gate .from) ≡ z → Once (withTrains (cond z (insertBy trainNo t (b .trains)) (moved n f (b .trains))) b)
 unfolding noRoom notThere onBoard
 once-move b o t n f gate e same room there true z =
     let few : length (b .trains) < 32 = leb-false 32 (length (b .trains)) (and-no-r (isOutside (gate .from)) (leb 32 (length (b .trains))) room z) in
     let new : any (isTrain n) (b .trains) ≡ false = rw z at there in
-    once-trains b o (b .trains ++ (t ∷ [])) (distinct-append trainNo (b .trains) t (o .trains) (rw e new)) (omega (arith, length-append (b .trains) (t ∷ [])))
+    once-trains b o (insertBy trainNo t (b .trains)) (ascending-insert trainNo t (b .trains) (o .trains) (rw e new))
+    (omega (arith, length-insert trainNo t (b .trains)))
 once-move b o t n f gate e same room there false z = once-change-trains b o (isTrain n) f same
 
 once-passed : (b : Board) (o : Once b) (n : ℕ) (z : Bool) → Once (withTrains (cond z (gone n (b .trains)) (moved n withRearIn (b .trains))) b)
@@ -170,5 +173,19 @@ once-final b [] o = o
 once-final b (m ∷ ms) o = once-final (after b (m .seven) (m .room)) ms (once-after b (m .seven) (m .room) o)
 
 pub once-opened : (portions : ℕ) (gates : List Gate) → Once (opened portions gates)
-unfolding opened Distinct
+unfolding opened Ascending
 once-opened portions gates = record { authorities = tt; trains = tt; live = omega arith; running = omega arith; last = omega arith; allotted = λ a m. elim m [ ] }
+
+pub once-open : (text : List ℕ) → Once (openBoard text)
+once-open text = let o = fresh text in subst Once (sym (o .is-opened)) (once-opened (o .portions) (o .gates))
+
+-- ---- what it tells
+
+-- THEOREM: "each live authority and each train on the board is held once": no two have the same number
+pub held-once : (b : Board) → Once b → Distinct authorityNo (b .authorities) × Distinct trainNo (b .trains)
+held-once b o = (ascending-distinct authorityNo (b .authorities) (o .authorities), ascending-distinct trainNo (b .trains) (o .trains))
+
+-- THEOREM, order 5: on a board opened from any plan text, after any list of calls, live authorities and trains are held by ascending number
+pub held-ascending : (text : List ℕ) (ms : List Made)
+    → Ascending authorityNo (final (openBoard text) ms .authorities) × Ascending trainNo (final (openBoard text) ms .trains)
+held-ascending text ms = let o = once-final (openBoard text) ms (once-open text) in (o .authorities, o .trains)

@@ -1,27 +1,31 @@
--- The shift sheet (02, order 2): first and last are those of the REQUEST after every list of calls, and a page worked out, byte for byte.
--- Assumes nothing.
-use Prim.Native.Nat.{ℕ}
+-- The shift sheet (02, order 2): first and last are those of the REQUEST after every list of calls; its lines ascend (order 5); and a page worked
+-- out, byte for byte. Assumes nothing.
+use Prim.Native.Nat.{ℕ, zero, suc, _<_}
 use native.Mathlib.Omega.{arith}
 use mathlib.Core.Path.{_≡_, refl, sym}
 use mathlib.Core.Logic.{⊎-elim}
 use mathlib.Core.Bool.{true, false}
-use mathlib.Core.List.{List, [], _∷_}
+use mathlib.Core.List.{List, [], _∷_, _++_, map}
+use lib.ListN.{length, getD}
 use Rattle.lists.specs.Search.{any, first, last, keep, below}
 use Rattle.lists.proofs.Tests.{truth}
+use Rattle.lists.specs.Order.{Ascending}
 use Rattle.lists.proofs.Search.{Member}
+use Rattle.lists.proofs.Order.{ascending-at}
 use Rattle.columns.specs.Text.{bytes}
 use Rattle.columns.specs.Column.{digitsIn, digits}
+use Rattle.cells.specs.declared.Cell.{Cell}
 use Rattle.cells.specs.Cells.{difference, marks, cell, cellLine}
 use Rattle.portions.specs.Sets.{has, setOf, run, size, least, greatest}
 use Rattle.portions.proofs.Ends.{least-is, greatest-is}
 use Rattle.rules.specs.declared.Kind.the-variants.{Lpa, Toa, Twa}
 use Rattle.rules.specs.declared.Authority.{Authority}
-use Rattle.rules.specs.Board.{Board, authorityNo}
+use Rattle.rules.specs.Board.{Board, noAuthority, authorityNo}
 use Rattle.rules.specs.Call.{authorityOf, minuteOf}
 use Rattle.rules.specs.Plan.{openBoard}
 use Rattle.rules.specs.Step.{Made, trace, final}
 use Rattle.rules.specs.Reckoning.{Reckoned, start, reckoned}
-use Rattle.rules.specs.Sheet.{minutesInHand, authorityCells, heldPortions, totalCells, sheetRows, pageOf, sheet}
+use Rattle.rules.specs.Sheet.{nowOf, minutesInHand, authorityCells, heldPortions, totalCells, sheetRows, pageOf, sheet}
 use Rattle.rules.proofs.Follows.{Held}
 use Rattle.rules.proofs.Safety.{list-follows}
 
@@ -45,6 +49,34 @@ first-last text ms a m =
     let h = list-follows text ms .held a m in
     let e = held-ends _ a h in
     (sym (h .kind), e .0, e .1)
+
+-- ---- lines by ascending number (02, order 5)
+
+-- the line of the authority at place i
+row-at : (f : Authority → List Cell) (xs : List Authority) (rest : List (List Cell)) (i : ℕ) → i < length xs
+    → getD (map f xs ++ rest) i [] ≡ f (getD xs i noAuthority)
+row-at f [] rest i l = absurd (omega arith)
+row-at f (x ∷ xs) rest zero l = refl
+row-at f (x ∷ xs) rest (suc i) l = row-at f xs rest i (omega arith)
+
+-- lines i and j are those of two authorities, each with its number in the first column, and the upper one has the lower number
+pub record Ascend (b : Board) (i j : ℕ) : Type 0 where
+  pub upper : Authority
+  pub lower : Authority
+  pub upper-line : getD (sheetRows b) i [] ≡ authorityCells (nowOf b) upper
+  pub lower-line : getD (sheetRows b) j [] ≡ authorityCells (nowOf b) lower
+  pub ascend : authorityNo upper < authorityNo lower
+
+-- THEOREM: of any two lines of live authorities the upper has the lower number
+pub lines-ascend : (b : Board) → Ascending authorityNo (b .authorities) → (i j : ℕ) → i < j → j < length (b .authorities) → Ascend b i j
+unfolding sheetRows
+lines-ascend b u i j l k = record {
+  upper = getD (b .authorities) i noAuthority;
+  lower = getD (b .authorities) j noAuthority;
+  upper-line = row-at (authorityCells (nowOf b)) (b .authorities) (totalCells b ∷ []) i (omega arith);
+  lower-line = row-at (authorityCells (nowOf b)) (b .authorities) (totalCells b ∷ []) j k;
+  ascend = ascending-at authorityNo noAuthority (b .authorities) u i j l k;
+}
 
 -- ---- a page
 

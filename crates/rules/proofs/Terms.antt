@@ -25,7 +25,7 @@ use Rattle.rules.specs.Step.{Made, Answered, after, trace, final, Once, 
 use Rattle.rules.proofs.Answers.{conditionAt}
 use Rattle.rules.proofs.Accepted.{Accepted, accepted}
 use Rattle.rules.proofs.Follows.{authority-there}
-use Rattle.rules.proofs.Once.{once-after}
+use Rattle.rules.proofs.Once.{once-after, held-once}
 
 -- the call ends authority n: "It is live until withdrawn, fulfilled or continued as old"
 unfoldable pub ends : ℕ → Call → Bool
@@ -129,7 +129,7 @@ module _ (b : Board) (o : Once b) (s : Seven) where
         term =
             λ h. clash h
             (subst (λ (y : Authority). hasTerm y ≡ false)
-            (one-of-number authorityNo (b .authorities) (o .authorities) (authority b (n .0)) x (there .0) m
+            (one-of-number authorityNo (b .authorities) (held-once b o .0) (authority b (n .0)) x (there .0) m
             (there .1 ∙ sym (eqb-true (authorityNo x) (n .0) i)))
             (k .ok 8));
       })

@@ -1,8 +1,9 @@
--- What the register holds (01, "Track and gates" and "What the register holds"; 02, order 1: terms, order 4: a TOA's agreement). Assumes nothing.
+-- What the register holds (01, "Track and gates" and "What the register holds"; 02, order 1: terms, order 4: a TOA's agreement, order 5: the order).
+-- Assumes nothing.
 use Prim.Native.Nat.{ℕ}
 use mathlib.Core.Path.{_≡_}
 use mathlib.Core.Bool.{Bool, true, false, not, _&&_, _||_}
-use mathlib.Core.List.{List, [], List·Memᴰ}
+use mathlib.Core.List.{List, [], _∷_}
 use lib.ListN.{getD}
 use lib.Dec.{eqb}
 use Rattle.lists.specs.Search.{any, first, keep, change}
@@ -18,7 +19,7 @@ use Rattle.rules.specs.declared.Register.{Register}
 -- ---- what a register stands for
 
 -- A board: P portions, the gates in order, the last stamp, the last number, the blocked gates as a set, live authorities and trains.
--- The order in which authorities and trains are held is free in 01; here a new one goes to the end and the order is kept.
+-- 02, order 5: "Hold live authorities and trains by ascending number after every call": `Once`, specs/Step.antt.
 -- The agreed TOA of a TWA in force is free in 01, and the joined TWA of a TOA in force in 02; here each stays as recorded until the TWA or TOA ends.
 pub record Board : Type 0 where
   pub portions : ℕ
@@ -267,11 +268,15 @@ pub record SameAuthority (x y : Authority) : Type 0 where
   pub start : x .start ≡ y .start
   pub length : x .length ≡ y .length
 
--- each element of one list has its like in the other
-abbrev pub EachIn : {A : Type 0} → (A → A → Type 0) → List A → List A → Type 0
-EachIn {A} Like xs ys = (x : A) → List·Memᴰ x xs → (y : A) × List·Memᴰ y ys × Like x y
+-- the elements of two lists are alike, place for place
+abbrev pub InOrder : {A : Type 0} → (A → A → Type 0) → List A → List A → Type 0
+InOrder Like [] [] = Unit {0}
+InOrder Like [] (y ∷ ys) = ⊥
+InOrder Like (x ∷ xs) [] = ⊥
+InOrder Like (x ∷ xs) (y ∷ ys) = Like x y × InOrder Like xs ys
 
--- "Two registers are equal when plan, last stamp, last number, blocks, live authorities and trains are equal as sets"
+-- "Two registers are equal when plan, last stamp, last number, blocks, live authorities and trains are equal"; 02, order 5: "The comparison with
+-- document 01's register includes that order from now on."
 pub record Same (b c : Board) : Type 0 where
   pub portions : b .portions ≡ c .portions
   pub gates : b .gates ≡ c .gates
@@ -279,7 +284,5 @@ pub record Same (b c : Board) : Type 0 where
   pub time : b .time ≡ c .time
   pub last : b .last ≡ c .last
   pub blocks : b .blocks ≡ c .blocks
-  pub authorities : EachIn SameAuthority (b .authorities) (c .authorities)
-  pub authorities′ : EachIn SameAuthority (c .authorities) (b .authorities)
-  pub trains : EachIn (λ x y. x ≡ y) (b .trains) (c .trains)
-  pub trains′ : EachIn (λ x y. x ≡ y) (c .trains) (b .trains)
+  pub authorities : InOrder SameAuthority (b .authorities) (c .authorities)
+  pub trains : b .trains ≡ c .trains

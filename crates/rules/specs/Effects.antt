@@ -1,9 +1,10 @@
--- What an accepted call does (01, "The thirteen calls"; 02, order 1: TERM, order 4: JOIN). Nothing else changes. Assumes nothing.
+-- What an accepted call does (01, "The thirteen calls"; 02, order 1: TERM, order 4: JOIN, order 5: the order). Nothing else changes. Assumes nothing.
 use Prim.Native.Nat.{ℕ, suc}
 use mathlib.Core.Bool.{Bool, true, false, cond}
 use mathlib.Core.List.{List, [], _∷_, _++_}
 use lib.Dec.{eqb}
 use Rattle.lists.specs.Search.{change}
+use Rattle.lists.specs.Order.{insertBy}
 use Rattle.portions.specs.Sets.{has, run, insert, remove}
 use Rattle.rules.specs.declared.AuthorityNo.{AuthorityNo}
 use Rattle.rules.specs.declared.TrainNo.{TrainNo}
@@ -12,7 +13,7 @@ use Rattle.rules.specs.declared.Authority.{Authority}
 use Rattle.rules.specs.declared.Train.{Train}
 use Rattle.rules.specs.declared.Call.{Call}
 use Rattle.rules.specs.declared.Call.the-variants.{NoSuchCall, BadField, Request, Withdraw, Agree, Block, Unblock, Grant, Clear, Reoccupy, HandOver, Fulfil, Continue, Move, Passed, Term, Join}
-use Rattle.rules.specs.Board.{Board, isOutside, gateAt, inForce, workersOn, authority, train, withAuthorities, withTrains, withBlocks, withLast, amended, ended, moved, gone}
+use Rattle.rules.specs.Board.{Board, isOutside, gateAt, inForce, workersOn, trainNo, authority, train, withAuthorities, withTrains, withBlocks, withLast, amended, ended, moved, gone}
 use Rattle.rules.specs.Call.{authorityOf, minuteOf}
 
 -- ---- what becomes of one authority
@@ -138,7 +139,8 @@ continued old new limits ts = change (isWith old) (continuedWith new limits) ts
 unfoldable pub effect : Board → Call → Board
 effect b NoSuchCall = b
 effect b BadField = b
--- REQUEST: "Numbers are allotted 1, 2, 3 up to 9999 and never reused."; "limits (a first and a last portion and all between, held as one set of portions)"
+-- REQUEST: "Numbers are allotted 1, 2, 3 up to 9999 and never reused.", so that the new one's place by ascending number (order 5) is the end;
+-- "limits (a first and a last portion and all between, held as one set of portions)"
 effect b (Request kind first last officer) =
     withLast (suc (b .last))
     (withAuthorities (b .authorities ++ (requested (suc (b .last)) kind (run first last) officer ∷ [])) b)
@@ -163,10 +165,10 @@ effect b (Fulfil n officer assurances) =
 effect b (Continue old new officerOld officerNew) =
     withTrains (continued (old .0) new (authority b (new .0) .limits) (b .trains))
     (withAuthorities (amended (new .0) granted (ended (old .0) (b .authorities))) b)
--- MOVE: "Blocks stay on."
+-- MOVE: "Blocks stay on."; order 5: a train from outside comes to its place "by ascending number"
 effect b (Move t g n officer) =
     withTrains
-    (cond (isOutside (gateAt (b .gates) (g .0) .from)) (b .trains ++ (entered t (gateAt (b .gates) (g .0) .to) n ∷ []))
+    (cond (isOutside (gateAt (b .gates) (g .0) .from)) (insertBy trainNo (entered t (gateAt (b .gates) (g .0) .to) n) (b .trains))
     (moved (t .0) (withHead (gateAt (b .gates) (g .0) .to) n) (b .trains)))
     b
 -- PASSED: "a head outside takes the train off"

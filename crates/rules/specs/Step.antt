@@ -5,7 +5,7 @@ use mathlib.Core.Bool.{cond, _&&_}
 use mathlib.Core.List.{List, [], _∷_, List·Memᴰ}
 use lib.ListN.{length}
 use lib.Dec.{eqb}
-use Rattle.lists.specs.Distinct.{Distinct}
+use Rattle.lists.specs.Order.{Ascending}
 use Rattle.rules.specs.declared.Authority.{Authority}
 use Rattle.rules.specs.declared.Register.{Register}
 use Rattle.rules.specs.declared.Seven.{Seven}
@@ -52,11 +52,11 @@ final b (m ∷ ms) = final (after b (m .seven) (m .room)) ms
 
 -- ---- the functions
 
--- "in any order each live authority and each train on the board is held once"; "at most 32 are live", "At most 32 are on the board";
--- "Numbers are allotted 1, 2, 3 up to 9999"
+-- 02, order 5: "Hold live authorities and trains by ascending number after every call", so that "each live authority and each train on the board
+-- is held once" (theorem `held-once`); "at most 32 are live", "At most 32 are on the board"; "Numbers are allotted 1, 2, 3 up to 9999"
 pub record Once (b : Board) : Type 0 where
-  pub authorities : Distinct authorityNo (b .authorities)
-  pub trains : Distinct trainNo (b .trains)
+  pub authorities : Ascending authorityNo (b .authorities)
+  pub trains : Ascending trainNo (b .trains)
   pub live : length (b .authorities) ≤ 32
   pub running : length (b .trains) ≤ 32
   pub last : b .last ≤ 9999
@@ -73,8 +73,8 @@ pub record Bounds (r : Register) : Type 0 where
 abbrev pub Starts : Board → Type 0
 Starts b = (a : Authority) → List·Memᴰ a (b .authorities) → a .start < 10000 * 1440
 
--- what holds of every register that opening or a call returned: its counts are within its arrays, what they hold is held once, and terms
--- start within the days
+-- what holds of every register that opening or a call returned: its counts are within its arrays, what they hold is held once, by ascending
+-- number, and terms start within the days
 pub record Kept (r : Register) : Type 0 where
   pub bounds : Bounds r
   pub once : Once (boardOf r)

@@ -17,8 +17,8 @@ use Rattle.rules.specs.Plan.{openBoard}
 use Rattle.rules.specs.Step.{Made, Answered, final}
 use Rattle.rules.specs.Reckoning.{start, reckoned}
 use Rattle.rules.specs.Sheet.{sheetRows, sheet}
-use Rattle.rules.proofs.Sheets.{first-last}
-use Rattle.board.proofs.Ran.{Ran, ran-kept, ran-board, ran-trace}
+use Rattle.rules.proofs.Sheets.{first-last, Ascend, lines-ascend}
+use Rattle.board.proofs.Ran.{Ran, ran-kept, ran-ascending, ran-board, ran-trace}
 use Rattle.sheet.specs.declared.page.Written.{Written}
 use Rattle.sheet.proofs.page.write_sheet.Kinds as kinds
 use Rattle.sheet.proofs.page.write_sheet.Reads as reads
@@ -37,6 +37,11 @@ ran-first-last {text} {ms} h o m =
     (λ (l : List Answered). let x = reckoned (openBoard text .gates) start l .authority (authorityNo o) in
     (o .kind ≡ x .kind) × (least (o .limits) ≡ x .first) × (greatest (o .limits) ≡ x .last))
     (sym (ran-trace h)) (first-last text ms o (subst (λ (b : Board). Member o (b .authorities)) (ran-board h) m))
+
+-- THEOREM, order 5: of any two lines of live authorities on the sheet of a run the upper has the lower number
+pub ran-lines-ascend : {text : List ℕ} {ms : List Made} {cs : List Answered} {r : Register} → Ran text ms cs r
+    → (i j : ℕ) → i < j → j < length (boardOf r .authorities) → Ascend (boardOf r) i j
+ran-lines-ascend {r = r} h = lines-ascend (boardOf r) (ran-ascending h .0)
 
 -- ---- what `write_sheet` leaves, of any register and buffer
 

@@ -1,11 +1,11 @@
-// The trains on the board: a dense prefix of the places, in the order in which they came.
+// The trains on the board: a dense prefix of the places, by ascending number.
 ghost use mathlib.Core.Path.{_≡_};
-ghost use mathlib.Core.List.{_++_, _∷_, []};
 ghost use Prim.Native.Nat.{_+_, _≤_, _<_};
 ghost use Rattle.lists.specs.Search.{any, keep, change};
 ghost use Rattle.lists.specs.Prefix.{prefix};
 ghost use Rattle.lists.specs.Places.{Holds};
-ghost use Rattle.rules.specs.Board.{isTrain, isNotTrain};
+ghost use Rattle.lists.specs.Order.{insertBy};
+ghost use Rattle.rules.specs.Board.{trainNo, isTrain, isNotTrain};
 ghost use Rattle.places.specs.Places.{trainsIn};
 ghost use Rattle.trains.specs.Trains.{endPasses, trainPasses, foundTrain, trainTest, trainChange};
 use kinds::is_twa;
@@ -180,10 +180,22 @@ pub fn remove_train(trains: &mut [u16; 128], running: usize, n: TrainNo) -> usiz
     j
 }
 
-// One more train, at the end.
-pub fn add_train(trains: &mut [u16; 128], running: usize, t: Train)
+// One more train, put before the first with a higher number: from there on each train goes to the place behind its own.
+pub fn insert_train(trains: &mut [u16; 128], running: usize, t: Train)
     requires { ⌜ running < 32 ⌝ }
-    ensures { λ _. ⌜ prefix (running + 1) (trainsIn (now (trains .exit))) ≡ prefix running (trainsIn (now (trains .entry))) ++ (t ∷ []) ⌝ }
+    ensures { λ _. ⌜ prefix (running + 1) (trainsIn (now (trains .exit))) ≡ insertBy trainNo t (prefix running (trainsIn (now (trains .entry)))) ⌝ }
 {
-    put_train(trains, running, t);
+    let mut carried = t;
+    let mut met = false;
+    let mut i: usize = 0;
+    while i < running {
+        let x = train_at(trains, i);
+        if met | (t.number.0 < x.number.0) {
+            put_train(trains, i, carried);
+            carried = x;
+            met = true;
+        }
+        i += 1;
+    }
+    put_train(trains, running, carried);
 }

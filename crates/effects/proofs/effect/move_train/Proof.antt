@@ -1,4 +1,4 @@
--- `effects::effect::move_train` meets its contract: a gate from outside adds a train, another moves its head. Assumes nothing.
+-- `effects::effect::move_train` meets its contract: a gate from outside puts a train in its place, another moves its head. Assumes nothing.
 use borrow.Author.Needs.{needs}
 use Prim.Native.Nat.{_<_}
 use native.Mathlib.Omega.{arith}
@@ -20,8 +20,8 @@ room c =
 gate-at-requires : tie.Need-gate-at-requires
 gate-at-requires c κs = search needs
 
-add-train-requires : tie.Need-add-train-requires
-add-train-requires c κs = room (c .before)
+insert-train-requires : tie.Need-insert-train-requires
+insert-train-requires c κs = room (c .before)
 
 add-out : tie.Need-add-out
 add-out c = search needs
@@ -34,7 +34,7 @@ unfolding boardOf effect
 returns c =
     let f = c .before .before .before .before .before in
     trains-effect (f .before .pre .0)
-    (record { held = c .before .add-train .ensures; within = omega (arith, room (c .before .before .before)) })
+    (record { held = c .before .insert-train .ensures; within = omega (arith, room (c .before .before .before)) })
     (rw (← f .gate-at .ensures, eq-eqb (f .gate-at .result .from) 99 (c .before .before .before .if1 .taken)))
 
 returns-2 : tie.Need-returns-2
@@ -48,4 +48,4 @@ returns-2 c =
 pub move-train-spec : {M : Type 1} → statement M
 move-train-spec =
     tie.close
-    (tie.spec gate-at-requires add-train-requires add-out change-trains-requires returns returns-2)
+    (tie.spec gate-at-requires insert-train-requires add-out change-trains-requires returns returns-2)

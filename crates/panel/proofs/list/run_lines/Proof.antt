@@ -6,10 +6,10 @@ use Rattle.panel.proofs.list.run_lines.Statement.{statement}
 use Rattle.panel.proofs.list.run_lines.Tie as tie
 
 abbrev Inv-loop : tie.InvT-loop
-Inv-loop list sheet at₀ t4 at = at ≤ length list
+Inv-loop list shown at₀ t4 at = at ≤ length list
 
 abbrev μ-loop : tie.MeasureT-loop
-μ-loop list sheet at₀ t4 at = length list - at
+μ-loop list shown at₀ t4 at = length list - at
 
 loop-holds : tie.Need-loop-holds Inv-loop μ-loop
 loop-holds c = search needs
