@@ -1,11 +1,18 @@
--- What contracts equate is equal by 01 too: equal boards are `Same`, and `Same` is an equality. Assumes nothing.
-use mathlib.Core.Path.{_≡_, refl, sym, ap, subst, _∙_}
-use mathlib.Core.List.{List, [], _∷_}
+-- What contracts equate is equal by 01 and 02 too: equal boards are `Same`, `Same` is an equality, and on boards in order it is 01's equality as
+-- sets. Assumes nothing.
+use Prim.Native.Nat.{ℕ, _≤_, _<_}
+use native.Mathlib.Omega.{arith}
+use mathlib.Core.Path.{_≡_, refl, sym, ap, ap₂, subst, _∙_}
+use mathlib.Core.Logic.{⊎-elim}
+use mathlib.Core.List.{List, [], _∷_, List·Memᴰ·head, List·Memᴰ·tail, List·Memᴰ·cases-cons}
+use Rattle.lists.specs.Order.{Ascending}
+use Rattle.lists.proofs.Search.{Member}
 use Rattle.rules.specs.declared.Authority.{Authority}
 use Rattle.rules.specs.declared.Kind.{Kind}
 use Rattle.rules.specs.declared.Kind.the-variants.{Lpa, Toa, Twa}
 use Rattle.rules.specs.Call.{kindOf}
-use Rattle.rules.specs.Board.{Board, kindNo, isToa, isTwa, SameAuthority, InOrder, Same}
+use Rattle.rules.specs.Board.{Board, kindNo, isToa, isTwa, authorityNo, trainNo, SameAuthority, InOrder, Same}
+use Rattle.rules.specs.Step.{Once}
 
 same-authority : (a : Authority) → SameAuthority a a
 same-authority a = record { number = refl; kind = refl; limits = refl; officer = refl; stage = refl; site = refl; agreed = λ t f. refl; joined = λ t f. refl; start = refl; length = refl }
@@ -89,6 +96,96 @@ same-trans b c d s t = record {
   blocks = s .blocks ∙ t .blocks;
   authorities = in-order-trans (b .authorities) (c .authorities) (d .authorities) (s .authorities) (t .authorities);
   trains = s .trains ∙ t .trains;
+}
+
+-- ---- 01's equality as sets, with the order free, and the one in order
+
+-- each element of one list has its like in the other
+abbrev pub EachIn : {A : Type 0} → (A → A → Type 0) → List A → List A → Type 0
+EachIn {A} Like xs ys = (x : A) → Member x xs → (y : A) × Member y ys × Like x y
+
+-- 01: "Two registers are equal when plan, last stamp, last number, blocks, live authorities and trains are equal as sets"
+pub record SameSets (b c : Board) : Type 0 where
+  pub portions : b .portions ≡ c .portions
+  pub gates : b .gates ≡ c .gates
+  pub day : b .day ≡ c .day
+  pub time : b .time ≡ c .time
+  pub last : b .last ≡ c .last
+  pub blocks : b .blocks ≡ c .blocks
+  pub authorities : EachIn SameAuthority (b .authorities) (c .authorities)
+  pub authorities′ : EachIn SameAuthority (c .authorities) (b .authorities)
+  pub trains : EachIn (λ x y. x ≡ y) (b .trains) (c .trains)
+  pub trains′ : EachIn (λ x y. x ≡ y) (c .trains) (b .trains)
+
+in-order-each : {A : Type 0} (Like : A → A → Type 0) (xs ys : List A) → InOrder Like xs ys → EachIn Like xs ys
+in-order-each Like [] ys s x m = elim m [ ]
+in-order-each Like (z ∷ zs) (w ∷ ws) s x m =
+    ⊎-elim (λ e. (w, List·Memᴰ·head refl, subst (λ (a : _). Like a w) (sym e) (s .0)))
+    (λ k. let (y, my, l) = in-order-each Like zs ws (s .1) x k in (y, List·Memᴰ·tail my, l)) (List·Memᴰ·cases-cons m)
+
+-- THEOREM: equal in order is equal as sets
+pub same-sets : (b c : Board) → Same b c → SameSets b c
+same-sets b c s = record {
+  portions = s .portions;
+  gates = s .gates;
+  day = s .day;
+  time = s .time;
+  last = s .last;
+  blocks = s .blocks;
+  authorities = in-order-each SameAuthority (b .authorities) (c .authorities) (s .authorities);
+  authorities′ = in-order-each SameAuthority (c .authorities) (b .authorities) (in-order-sym (b .authorities) (c .authorities) (s .authorities));
+  trains = λ t m. (t, subst (Member t) (s .trains) m, refl);
+  trains′ = λ t m. (t, subst (Member t) (sym (s .trains)) m, refl);
+}
+
+module _ {A : Type 0} (number : A → ℕ) (Like : A → A → Type 0) (like-number : (x y : A) → Like x y → number x ≡ number y) where
+  -- the first number of an ascending list is the least
+  least-first : (x y : A) (xs : List A) → ((z : A) → Member z xs → number x < number z) → Member y (x ∷ xs) → number x ≤ number y
+  least-first x y xs h m = ⊎-elim (λ e. omega (arith, ap number e)) (λ k. omega (arith, h y k)) (List·Memᴰ·cases-cons m)
+
+  -- an element with the first number is the first
+  first-is : (x y : A) (xs : List A) → ((z : A) → Member z xs → number x < number z) → Member y (x ∷ xs) → number y ≡ number x → y ≡ x
+  first-is x y xs h m e = ⊎-elim (λ q. q) (λ k. absurd (omega (arith, h y k))) (List·Memᴰ·cases-cons m)
+
+  -- without the first of each, where both have the same number
+  tails : (x y : A) (xs ys : List A) → number x ≡ number y → ((z : A) → Member z xs → number x < number z) → EachIn Like (x ∷ xs) (y ∷ ys) → EachIn Like xs ys
+  tails x y xs ys e h f z m =
+      let (w, mw, l) = f z (List·Memᴰ·tail m) in
+      ⊎-elim (λ q. absurd (omega (arith, h z m, like-number z w l, ap number q, e))) (λ k. (w, k, l)) (List·Memᴰ·cases-cons mw)
+
+  each-in-order : (xs ys : List A) → Ascending number xs → Ascending number ys → EachIn Like xs ys → EachIn Like ys xs → InOrder Like xs ys
+  unfolding Ascending
+  each-in-order [] [] u v f g = tt
+  each-in-order [] (y ∷ ys) u v f g = let (x, m, l) = g y (List·Memᴰ·head refl) in elim m [ ]
+  each-in-order (x ∷ xs) [] u v f g = let (y, m, l) = f x (List·Memᴰ·head refl) in elim m [ ]
+  each-in-order (x ∷ xs) (y ∷ ys) u v f g =
+      let (w, mw, l) = f x (List·Memᴰ·head refl) in
+      let (z, mz, k) = g y (List·Memᴰ·head refl) in
+      let same : number x ≡ number y =
+      omega (arith, like-number x w l, like-number y z k, least-first y w ys (v .0) mw, least-first x z xs (u .0) mz) in
+      (
+        subst (Like x) (first-is y w ys (v .0) mw (sym (like-number x w l) ∙ same)) l,
+        each-in-order xs ys (u .1) (v .1) (tails x y xs ys same (u .0) f) (tails y x ys xs (sym same) (v .0) g),
+      )
+
+in-order-equal : {A : Type 0} (xs ys : List A) → InOrder (λ x y. x ≡ y) xs ys → xs ≡ ys
+in-order-equal [] [] s = refl
+in-order-equal (x ∷ xs) (y ∷ ys) s = ap₂ (λ a l. a ∷ l) (s .0) (in-order-equal xs ys (s .1))
+
+-- THEOREM: of boards that hold authorities and trains by ascending number, equal as sets is equal in order: the numbers fix it
+pub sets-same : (b c : Board) → Once b → Once c → SameSets b c → Same b c
+sets-same b c o p s = record {
+  portions = s .portions;
+  gates = s .gates;
+  day = s .day;
+  time = s .time;
+  last = s .last;
+  blocks = s .blocks;
+  authorities =
+      each-in-order authorityNo SameAuthority (λ x y l. l .number) (b .authorities) (c .authorities) (o .authorities) (p .authorities) (s .authorities) (s .authorities′);
+  trains =
+      in-order-equal (b .trains) (c .trains)
+      (each-in-order trainNo (λ x y. x ≡ y) (λ x y l. ap trainNo l) (b .trains) (c .trains) (o .trains) (p .trains) (s .trains) (s .trains′));
 }
 
 -- the kinds and 01's numbers for them are one to one
