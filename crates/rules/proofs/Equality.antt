@@ -162,8 +162,7 @@ module _ {A : Type 0} (number : A → ℕ) (Like : A → A → Type 0) (like-num
       let (w, mw, l) = f x (List·Memᴰ·head refl) in
       let (z, mz, k) = g y (List·Memᴰ·head refl) in
       let same : number x ≡ number y =
-      omega (arith, like-number x w l, like-number y z k, least-first y w ys (v .0) mw, least-first x z xs (u .0) mz) in
-      (
+      omega (arith, like-number x w l, like-number y z k, least-first y w ys (v .0) mw, least-first x z xs (u .0) mz) in (
         subst (Like x) (first-is y w ys (v .0) mw (sym (like-number x w l) ∙ same)) l,
         each-in-order xs ys (u .1) (v .1) (tails x y xs ys same (u .0) f) (tails y x ys xs (sym same) (v .0) g),
       )
