@@ -1,5 +1,5 @@
-// The live authorities that a register holds, a dense prefix of the places in the order of their requests: searches, and changes that keep
-// their order.
+// The live authorities that a register holds, a dense prefix of the places by ascending number, which is the order of their requests: searches, and
+// changes that keep it.
 ghost use mathlib.Core.Path.{_≡_};
 ghost use mathlib.Core.List.{_++_, _∷_, []};
 ghost use Prim.Native.Nat.{_+_, _≤_, _<_};

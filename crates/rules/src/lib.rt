@@ -159,7 +159,7 @@ pub struct Train {
     pub with: AuthorityNo,
 }
 
-// The board's whole state. Of each array only the first places, as many as its count says, are in use.
+// The board's whole state. Of each array only the first places, as many as its count says, are in use; authorities and trains stand by ascending number.
 // blocks is a set of gates; last is the last number allotted; day and time are the stamp of the last accepted call.
 pub struct Register {
     pub portions: u16,
