@@ -1,7 +1,7 @@
 -- The loops over the first `count` of 32 places, for any type of element: a search that is left at the first that passes, a change in place,
--- a removal in place that keeps the order, and one more, inserted by its number or put at the end. Of each loop: what holds where place i is next, then its start, a turn
--- where the element at i passes, one where it does not, and its end. The list read is the list stored into: l is that of the start, `now`
--- that of this turn, `next` that of the turn after. Assumes nothing.
+-- a removal in place that keeps the order, and one more, put at the end or inserted by its number. Of each loop: what holds where place i is
+-- next, then its start, a turn where the element at i passes, one where it does not, and its end. The list read is the list stored into: l is
+-- that of the start, `now` that of this turn, `next` that of the turn after. Assumes nothing.
 use Prim.Native.Nat.{ℕ, _+_, _≤_, _<_}
 use native.Mathlib.Omega.{arith}
 use native.Mathlib.Nat.{add-zero}
@@ -136,6 +136,10 @@ module _ {A R : Type 0} {test : A → Bool} {found : A → R} {none : R} {answer
 same-at : {A : Type 0} (l now : List A) (i : ℕ) (d : A) {x : A} → x ≡ getD now i d → drop i now ≡ drop i l → x ≡ getD l i d
 same-at l now i d here e = here ∙ sym (rw add-zero at (getD-drop i now 0 d)) ∙ rw e (rw add-zero at (getD-drop i l 0 d))
 
+-- nor, then, is anything from i + 1 on
+same-behind : {A : Type 0} (l now : List A) (i : ℕ) → drop i now ≡ drop i l → drop (i + 1) now ≡ drop (i + 1) l
+same-behind l now i e = sym (drop-drop 1 i now) ∙ rw e (drop-drop 1 i l)
+
 -- those before i are changed, and nothing else
 pub record Changing {A : Type 0} (test : A → Bool) (f : A → A) (l now : List A) (count i : ℕ) : Type 0 where
   pub place : Reached l count i
@@ -195,9 +199,6 @@ module _ {A : Type 0} {test : A → Bool} {l now : List A} {count i j : ℕ} (at
     stood : x ≡ getD l i d
     stood = same-at l now i d here (at .rest)
 
-    after : drop (i + 1) now ≡ drop (i + 1) l
-    after = sym (drop-drop 1 i now) ∙ rw (at .rest) (drop-drop 1 i l)
-
     pub keeping-hit : test x ≡ true → {next : List A} {k : ℕ} → next ≡ set now j x → k ≡ j + 1 → Keeping test l next count (i + 1) k
     keeping-hit e stored longer =
         let p = at .place in
@@ -206,7 +207,7 @@ module _ {A : Type 0} {test : A → Bool} {l now : List A} {count i j : ℕ} (at
           behind = omega arith;
           room = rw (stored, length-set) (at .room);
           so-far = rw (stored, longer, stood) (keep-hit test l i d (omega arith) now j (omega arith) (rw stood at e) (at .so-far));
-          rest = rw (stored, drop-set-lt (i + 1) now j x (omega arith)) after;
+          rest = rw (stored, drop-set-lt (i + 1) now j x (omega arith)) (same-behind l now i (at .rest));
         }
 
     pub keeping-miss : test x ≡ false → {next : List A} {k : ℕ} → next ≡ now → k ≡ j → Keeping test l next count (i + 1) k
@@ -217,7 +218,7 @@ module _ {A : Type 0} {test : A → Bool} {l now : List A} {count i j : ℕ} (at
           behind = omega arith;
           room = rw kept (at .room);
           so-far = rw (kept, same) (at .so-far ∙ keep-miss test l i d (omega arith) (rw stood at e));
-          rest = rw kept after;
+          rest = rw kept (same-behind l now i (at .rest));
         }
 
 -- ---- one more at the end
@@ -254,9 +255,6 @@ module _ {A : Type 0} {number : A → ℕ} {x : A} {l now : List A} {count i : �
     here-too : y ≡ getD l i d
     here-too = same-at l now i d here (at .rest)
 
-    behind : drop (i + 1) now ≡ drop (i + 1) l
-    behind = sym (drop-drop 1 i now) ∙ rw (at .rest) (drop-drop 1 i l)
-
     -- those before i + 1
     one-further : prefix (i + 1) l ≡ prefix i l ++ (y ∷ [])
     one-further = let p = at .place in rw here-too (prefix-next l i d (omega arith))
@@ -276,7 +274,7 @@ module _ {A : Type 0} {number : A → ℕ} {x : A} {l now : List A} {count i : �
           room = rw (stored, length-set) (at .room);
           so-far = rw (stored, taken, stored-last now i hand (omega (arith, at .room)), at .so-far, one-further, insert-behind number x (prefix i l) y (rw one-further at some));
           higher-met = is ∙ sym some;
-          rest = rw (stored, drop-set-lt (i + 1) now i hand (omega arith)) behind;
+          rest = rw (stored, drop-set-lt (i + 1) now i hand (omega arith)) (same-behind l now i (at .rest));
           waiting = λ f. clash is f;
         }
 
@@ -292,6 +290,6 @@ module _ {A : Type 0} {number : A → ℕ} {x : A} {l now : List A} {count i : �
           room = rw kept (at .room);
           so-far = rw (kept, same, w .0, w .1, insert-last number x (prefix (i + 1) l) none);
           higher-met = unmet ∙ or-no-l met (ltb (number x) (number y)) e ∙ sym none;
-          rest = rw kept behind;
+          rest = rw kept (same-behind l now i (at .rest));
           waiting = λ f. (same ∙ w .0, kept ∙ w .1);
         }

@@ -12,7 +12,7 @@ use Rattle.lists.specs.Search.{any, keep, change}
 use Rattle.lists.specs.Distinct.{numbered, Distinct}
 use Rattle.lists.specs.Order.{Ascending, insertBy}
 use Rattle.lists.proofs.Tests.{clash, or-no-l, or-no-r}
-use Rattle.lists.proofs.Search.{Member, any-none, kept, changes-from}
+use Rattle.lists.proofs.Search.{Member, any-none, member-at, kept, changes-from}
 use Rattle.lists.proofs.Distinct.{Free, changed-number}
 
 module _ {A : Type 0} (number : A → ℕ) where
@@ -30,17 +30,12 @@ module _ {A : Type 0} (number : A → ℕ) where
     ascending-distinct xs (u .1),
   )
 
-  at-member : (d : A) (xs : List A) (i : ℕ) → i < length xs → Member (getD xs i d) xs
-  at-member d [] i l = absurd (omega arith)
-  at-member d (x ∷ xs) zero l = List·Memᴰ·head refl
-  at-member d (x ∷ xs) (suc i) l = List·Memᴰ·tail (at-member d xs i (omega arith))
-
   -- and of two places the first has the lower number
   pub ascending-at : (d : A) (xs : List A) → Ascending number xs → (i j : ℕ) → i < j → j < length xs → number (getD xs i d) < number (getD xs j d)
   unfolding Ascending
   ascending-at d [] u i j l k = absurd (omega arith)
   ascending-at d (x ∷ xs) u i zero l k = absurd (omega arith)
-  ascending-at d (x ∷ xs) u zero (suc j) l k = u .0 (getD xs j d) (at-member d xs j (omega arith))
+  ascending-at d (x ∷ xs) u zero (suc j) l k = u .0 (getD xs j d) (member-at d xs j (omega arith))
   ascending-at d (x ∷ xs) u (suc i) (suc j) l k = ascending-at d xs (u .1) i j (omega arith) (omega arith)
 
   -- ---- what keeps the numbers ascending

@@ -1,16 +1,16 @@
 -- Laws of a dense prefix, for the loops over one: one more stored at its end, and a turn of each search and change.
 -- In each, l is the array's list, `count` the places in use, i the place that the loop has reached. Assumes nothing.
-use Prim.Native.Nat.{ℕ, zero, suc, _+_, _≤_, _<_}
+use Prim.Native.Nat.{ℕ, suc, _+_, _≤_, _<_}
 use native.Mathlib.Omega.{arith}
 use native.Mathlib.Numerals.{add-one}
 use mathlib.Core.Path.{_≡_, refl, sym, _∙_}
 use mathlib.Core.Bool.{Bool, true, false, cond}
-use mathlib.Core.List.{List, [], _∷_, _++_, map, append-assoc, append-nil, List·Memᴰ·head, List·Memᴰ·tail}
+use mathlib.Core.List.{List, [], _∷_, _++_, map, append-assoc, append-nil}
 use lib.ListN.{length, take, drop, getD, set, length-take, length-map, drop-of-length-le}
 use lib.Seq.{drop-cons, take-suc, take-suc-set, getD-take, length-take-le, set-at, take-at}
 use Rattle.lists.specs.Search.{any, first, keep, change}
 use Rattle.lists.specs.Prefix.{prefix}
-use Rattle.lists.proofs.Search.{Member, keep-append, change-append, length-change}
+use Rattle.lists.proofs.Search.{Member, member-at, keep-append, change-append, length-change}
 
 -- what owning an array of structs tells of its length, for the list of its elements (an answer of `search unmapped`)
 pub unmapped : (A B : Type 0) (f : A → B) (l : List A) (n : ℕ) → length (map f l) ≡ n → length l ≡ n
@@ -34,10 +34,7 @@ module _ {A : Type 0} where
   -- an element in a place in use
   pub prefix-member : (l : List A) (count i : ℕ) (d : A) → i < count → count ≤ length l → Member (getD l i d) (prefix count l)
   unfolding prefix
-  prefix-member [] count i d h k = absurd (omega arith)
-  prefix-member (x ∷ l) zero i d h k = absurd (omega arith)
-  prefix-member (x ∷ l) (suc count) zero d h k = List·Memᴰ·head refl
-  prefix-member (x ∷ l) (suc count) (suc i) d h k = List·Memᴰ·tail (prefix-member l count i d (omega arith) (omega arith))
+  prefix-member l count i d h k = rw (← getD-take count l i d h) (member-at d (take count l) i (omega (arith, length-take-le count l k)))
 
   pub prefix-none : (l : List A) → prefix 0 l ≡ []
   unfolding prefix

@@ -161,6 +161,11 @@ module _ {A : Type 0} where
 
 -- ---- every element, by its place
 
+pub member-at : {A : Type 0} (d : A) (xs : List A) (i : ℕ) → i < length xs → Member (getD xs i d) xs
+member-at d [] i l = absurd (omega arith)
+member-at d (x ∷ xs) zero l = List·Memᴰ·head refl
+member-at d (x ∷ xs) (suc i) l = List·Memᴰ·tail (member-at d xs i (omega arith))
+
 module _ {A : Type 0} (P : A → Type 0) where
   -- P holds of each element
   abbrev pub Each : List A → Type 0

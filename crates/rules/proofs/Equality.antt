@@ -33,7 +33,7 @@ same-refl b = record {
   trains = refl;
 }
 
--- THEOREM: boards that a contract equates, list for list, are equal by 01
+-- THEOREM: boards that a contract equates, list for list, are equal by 01 and 02
 pub equal-same : (b c : Board) → b ≡ c → Same b c
 equal-same b c e = subst (λ (d : Board). Same b d) e (same-refl b)
 
