@@ -3,8 +3,8 @@
 //!   generate SEED KIND OUTDIR      writes the files plan and calls
 //!   generate SEED busy N OUTDIR    the same, N calls on a busy board
 //!
-//! Kinds: steered, numbers, damaged, short, wild, shift, limits, busy N. The
-//! generator looks at the reference's board, which it uses as a module, to steer
+//! Kinds: steered, numbers, damaged, short, wild, shift, limits, trains, busy N.
+//! The generator looks at the reference's board, which it uses as a module, to steer
 //! towards calls that are accepted or refused for a wanted reason. The clock goes
 //! on by a few minutes a call, and sometimes by about a week to the term of an
 //! LPA; now and then some TOAs and TWAs join and agree over the same few portions.
@@ -17,7 +17,8 @@ mod reference;
 
 use reference::{
     write_number, Authority, AuthorityNumber, Board, Gate, GateNumber, Kind, Place, Portions, Site, Stamp, Train,
-    CALL_LINE, COLUMNS, DAY, LAST_NUMBER, LEAST_DISTANCE, MOST_DISTANCE, MOST_LIVE, NOTICE, OUTSIDE, PLAN_LINE,
+    TrainNumber, CALL_LINE, COLUMNS, DAY, LAST_NUMBER, LEAST_DISTANCE, MOST_DISTANCE, MOST_LIVE, MOST_TRAINS, NOTICE,
+    OUTSIDE, PLAN_LINE,
 };
 use std::fs::{self, File};
 use std::io::{self, BufWriter, Write};
@@ -66,6 +67,13 @@ impl Rng {
             rest -= weight;
         }
         unreachable!()
+    }
+
+    fn shuffle<T>(&mut self, list: &mut [T]) {
+        for index in (1..list.len()).rev() {
+            let other = self.below(index + 1);
+            list.swap(index, other);
+        }
     }
 
     /// The first that fits, from a random place on and round.
@@ -200,10 +208,7 @@ impl Plan {
     }
 
     fn shuffle(&mut self, rng: &mut Rng) {
-        for index in (1..self.gates.len()).rev() {
-            let other = rng.below(index + 1);
-            self.gates.swap(index, other);
-        }
+        rng.shuffle(&mut self.gates);
     }
 
     /// P 64, G 64: a ring of 48 portions with four ways in and four out, and a
@@ -353,6 +358,9 @@ struct Driver {
     /// the live authorities in the order to pick from, which isn't the
     /// register's: the last takes the place of one that ends
     picks: Vec<AuthorityNumber>,
+    /// so too the trains on the board: one that comes goes to the end, and the
+    /// last takes the place of one that leaves
+    train_picks: Vec<TrainNumber>,
 }
 
 /// The minutes that the clock may still reach now, both ends included.
@@ -381,8 +389,9 @@ impl Driver {
         officers.extend([1, 999]);
         let mut train_pool: Vec<u16> = (1..=34 + rng.between(0, 6)).collect();
         train_pool.extend([64, 99, 9998, 9999]);
-        let picks = Vec::with_capacity(MOST_LIVE);
-        Driver { rng, board, officers, train_pool, mood: EVEN, pace: 2000, leaps: true, ration: 9999, next: None, picks }
+        let (picks, train_picks) = (Vec::with_capacity(MOST_LIVE), Vec::with_capacity(MOST_TRAINS));
+        let (mood, pace, leaps, ration, next) = (EVEN, 2000, true, 9999, None);
+        Driver { rng, board, officers, train_pool, mood, pace, leaps, ration, next, picks, train_picks }
     }
 
     fn answer(&self, numbers: &[u16; 7]) -> u16 {
@@ -492,6 +501,17 @@ impl Driver {
         find(&number).copied()
     }
 
+    /// The trains on the board, in the order to pick from.
+    fn trains(&self) -> Vec<Train> {
+        let find = |number: &TrainNumber| self.board.trains.iter().find(|one| one.number == *number);
+        self.train_picks.iter().filter_map(find).copied().collect()
+    }
+
+    fn pick_train(&mut self, fits: impl Fn(&Train) -> bool) -> Option<Train> {
+        let trains = self.trains();
+        self.rng.first_fit(&trains, fits)
+    }
+
     fn pick_gate(&mut self, fits: impl Fn(GateNumber, &Gate) -> bool) -> Option<u16> {
         let count = self.board.gates.len();
         if count == 0 {
@@ -545,7 +565,7 @@ impl Driver {
 
     fn any_train(&mut self) -> u16 {
         if self.rng.chance(80) && !self.board.trains.is_empty() {
-            self.rng.pick(&self.board.trains).number.0
+            self.rng.pick(&self.train_picks).0
         } else {
             self.rng.pick(&self.train_pool)
         }
@@ -594,7 +614,7 @@ impl Driver {
             12 => self.good_move(),
             13 => {
                 let wanted = |train: &Train| train.head != train.rear;
-                let train = self.rng.first_fit(&self.board.trains, wanted);
+                let train = self.pick_train(wanted);
                 [train.map_or_else(|| self.any_train(), |train| train.number.0), 0, 0, 0]
             }
             14 => self.good_term(stamp),
@@ -643,7 +663,7 @@ impl Driver {
                 0 => (0, most),
                 1 => (0, self.rng.between(0, most)),
                 2 => (self.rng.between(0, most), most),
-                3 | 4 => match self.rng.first_fit(&self.board.trains, |_| true).map(|train| train.head) {
+                3 | 4 => match self.pick_train(|_| true).map(|train| train.head) {
                     Some(Place::Portion(at)) => (at.saturating_sub(self.rng.between(0, 1)), (at + 1).min(most)),
                     _ => (most, most),
                 },
@@ -741,7 +761,7 @@ impl Driver {
     fn good_continue(&mut self, want: u16) -> [u16; 4] {
         let blocked = self.board.blocked;
         let reach = self.reach();
-        let with = self.rng.first_fit(&self.board.trains, |train| train.with.is_some()).and_then(|train| train.with);
+        let with = self.pick_train(|train| train.with.is_some()).and_then(|train| train.with);
         let old = match with {
             Some(number) if self.rng.chance(60) => self.pick_live(|one| one.number == number),
             _ => None,
@@ -813,7 +833,7 @@ impl Driver {
             self.free_train()
         } else {
             let there = |train: &Train| train.head == from && train.rear == from;
-            let found = self.rng.first_fit(&trains, there);
+            let found = self.pick_train(there);
             found.map_or_else(|| self.any_train(), |train| train.number.0)
         };
         let (authority, officer) = self.due(gate);
@@ -1270,6 +1290,19 @@ impl Driver {
                 let ended = self.picks.iter().position(|number| number.0 == numbers[3]);
                 self.picks.swap_remove(ended.expect("it was live"));
             }
+            // a train that comes, and one that leaves
+            12 | 13 if answer == 0 => {
+                let train = TrainNumber(numbers[3]);
+                let listed = self.train_picks.iter().position(|number| *number == train);
+                let on_board = self.board.trains.iter().any(|one| one.number == train);
+                match listed {
+                    None => self.train_picks.push(train),
+                    Some(at) if !on_board => {
+                        self.train_picks.swap_remove(at);
+                    }
+                    Some(_) => {}
+                }
+            }
             _ => {}
         }
         answer
@@ -1388,7 +1421,7 @@ impl Driver {
             }
             12 => {
                 // into it, or out of it and on
-                let trains = self.board.trains.clone();
+                let trains = self.trains();
                 let train_at = |from: Place| trains.iter().find(|train| train.head == from && train.rear == from);
                 let leave = self.rng.chance(50);
                 let gate = self.pick_gate(|_, gate| {
@@ -1402,7 +1435,7 @@ impl Driver {
             }
             13 => {
                 let parted = |train: &Train| train.head != train.rear && train.touches(here);
-                [self.rng.first_fit(&self.board.trains, parted)?.number.0, 0, 0, 0]
+                [self.pick_train(parted)?.number.0, 0, 0, 0]
             }
             _ => return None,
         })
@@ -1700,10 +1733,7 @@ fn limits(mut rng: Rng) -> (Vec<u8>, Vec<u8>) {
         all.push((number, rng.between(number, 63)));
         all.push((0, number));
     }
-    for index in (1..all.len()).rev() {
-        let other = rng.below(index + 1);
-        all.swap(index, other);
-    }
+    rng.shuffle(&mut all);
     let mut driver = Driver::new(rng, &plan);
     let mut list = Vec::new();
     for gate in 0..64 {
@@ -1776,6 +1806,293 @@ impl Driver {
     fn gate_into(&self, portion: u16) -> u16 {
         let into = |gate: &Gate| gate.to == Place::Portion(portion);
         self.board.gates.iter().position(into).expect("a gate into each portion") as u16
+    }
+}
+
+/// As many calls as the panel program reads of a list.
+const FEW: usize = 100;
+
+/// Few calls, among them many that matter to the order in which authorities and
+/// trains are held: trains that come from outside by rising, falling or mixed
+/// numbers, up to 32 and beyond, that leave and come again, alone or under
+/// authorities that continue and end; or authorities that come and end.
+fn trains(mut rng: Rng) -> (Vec<u8>, Vec<u8>) {
+    let about = rng.below(10);
+    let plan = match about {
+        0..=4 => Plan::sidings(&mut rng),
+        5..=7 => Plan::open_line(&mut rng),
+        _ => {
+            let mut plan = Plan::open_to_all(&mut rng);
+            plan.gates.truncate(8);
+            plan
+        }
+    };
+    let mut driver = Driver::new(rng, &plan);
+    let mut list = Vec::new();
+    match about {
+        0..=4 => driver.come_and_go(&mut list),
+        5..=7 => driver.under_authority(&mut list),
+        _ => driver.turnover(&mut list),
+    }
+    list.truncate(FEW);
+    (plan.text(), text_of(&list))
+}
+
+impl Plan {
+    /// P 33 to 40, with a gate from outside into each portion; the other gates,
+    /// up to 64, go outside or on to another portion.
+    fn sidings(rng: &mut Rng) -> Plan {
+        let portions = rng.between(33, 40);
+        let mut plan = Plan { portions, gates: (0..portions).map(|to| [OUTSIDE, to, 1]).collect() };
+        while plan.gates.len() < 64 {
+            let from = rng.between(0, portions - 1);
+            let to = rng.pick(&[OUTSIDE, OUTSIDE, (from + 1) % portions]);
+            plan.gates.push([from, to, rng.between(1, 3)]);
+        }
+        plan.shuffle(rng);
+        plan
+    }
+
+    /// Two to eight portions in a row, both ways, with both ends to outside.
+    fn open_line(rng: &mut Rng) -> Plan {
+        let portions = rng.between(2, 8);
+        let mut plan = Plan { portions, gates: Vec::new() };
+        for portion in 0..portions {
+            let before = if portion == 0 { OUTSIDE } else { portion - 1 };
+            plan.gates.extend([[before, portion, rng.between(1, 3)], [portion, before, rng.between(1, 3)]]);
+        }
+        plan.gates.extend([[portions - 1, OUTSIDE, 1], [OUTSIDE, portions - 1, 1]]);
+        plan.shuffle(rng);
+        plan
+    }
+}
+
+/// Train numbers of one to four digits, those next to powers of 2 and 10 among
+/// them.
+const LENGTHS: [u16; 40] = [
+    1, 2, 3, 9, 10, 11, 12, 19, 20, 21, 30, 90, 99, 100, 101, 110, 111, 199, 200, 255, 256, 257, 300, 512, 999, 1000,
+    1001, 1010, 1100, 1111, 1999, 2000, 2560, 4095, 4096, 8191, 8192, 9000, 9998, 9999,
+];
+
+/// 40 train numbers in the order in which they come.
+fn comers(rng: &mut Rng) -> Vec<u16> {
+    let mut numbers: Vec<u16> = match rng.below(4) {
+        0 => (1..=40).collect(),
+        1 => (9960..=9999).collect(),
+        2 => LENGTHS.to_vec(),
+        _ => {
+            let mut some = vec![1, 9999];
+            while some.len() < 40 {
+                let number = rng.between(1, 9999);
+                if !some.contains(&number) {
+                    some.push(number);
+                }
+            }
+            some.sort();
+            some
+        }
+    };
+    match rng.below(6) {
+        0 => {}
+        1 => numbers.reverse(),
+        // from both ends in turn, the middle last
+        2 => {
+            let (low, high) = numbers.split_at(20);
+            numbers = low.iter().zip(high.iter().rev()).flat_map(|(&one, &other)| [one, other]).collect();
+        }
+        _ => rng.shuffle(&mut numbers),
+    }
+    numbers
+}
+
+impl Driver {
+    /// MOVE of the train through a gate from outside, best one that is open to
+    /// it.
+    fn enter(&mut self, train: u16, list: &mut Vec<[u16; 7]>) {
+        let (live, trains) = (self.board.live.clone(), self.board.trains.clone());
+        let exclusive = |one: &Authority| one.is_in_force() && one.kind.is_exclusive();
+        let led = |to: Place| live.iter().any(|one| exclusive(one) && one.limits.hold(to));
+        let free = |to: Place| !trains.iter().any(|one| one.touches_place(to));
+        let entry = |gate: &Gate| gate.from == Place::Outside;
+        let open = |_: GateNumber, gate: &Gate| entry(gate) && (led(gate.to) || free(gate.to));
+        let gate = self.pick_gate(open).or_else(|| self.pick_gate(|_, gate| entry(gate)));
+        if let Some(gate) = gate {
+            let (authority, officer) = self.due(gate);
+            let stamp = self.stamp();
+            self.add_at(stamp, 12, [train, gate, authority, officer], list);
+        }
+    }
+
+    /// MOVE to outside of a train that can, often the one with the lowest or the
+    /// highest number, and mostly PASSED at once; the train.
+    fn leave(&mut self, list: &mut Vec<[u16; 7]>) -> Option<u16> {
+        let out = |train: &Train, gate: &Gate| gate.to == Place::Outside && gate.from == train.head;
+        let gates = self.board.gates.clone();
+        let able = |train: &Train| train.head == train.rear && gates.iter().any(|gate| out(train, gate));
+        let mut trains = self.trains();
+        trains.retain(able);
+        trains.sort_by_key(|train| train.number);
+        let train = match self.rng.below(4) {
+            0 => trains.first().copied(),
+            1 => trains.last().copied(),
+            _ => self.rng.first_fit(&trains, |_| true),
+        }?;
+        let gate = self.pick_gate(|_, gate| out(&train, gate))?;
+        let (number, stamp) = (train.number.0, self.stamp());
+        self.add_at(stamp, 12, [number, gate, 0, 0], list);
+        if self.rng.chance(85) {
+            self.add(13, [number, 0, 0, 0], list);
+        }
+        Some(number)
+    }
+
+    /// A number to come with: one that has left, one below or above all on the
+    /// board, one between two of them, or any.
+    fn comer(&mut self, gone: &[u16]) -> u16 {
+        let mut numbers: Vec<u16> = self.board.trains.iter().map(|one| one.number.0).collect();
+        numbers.sort();
+        let (Some(&lowest), Some(&highest)) = (numbers.first(), numbers.last()) else {
+            return self.free_train();
+        };
+        match self.rng.below(8) {
+            0 | 1 if !gone.is_empty() => self.rng.pick(gone),
+            2 if lowest > 1 => self.rng.between(1, lowest - 1),
+            3 if lowest > 1 => lowest - 1,
+            4 if highest < 9999 => self.rng.between(highest + 1, 9999),
+            5 if numbers.len() > 1 => {
+                let at = self.rng.below(numbers.len() - 1);
+                self.rng.between(numbers[at], numbers[at + 1])
+            }
+            _ => self.free_train(),
+        }
+    }
+
+    /// So many trains from outside, with a MOVE now and then that is to be
+    /// refused.
+    fn come(&mut self, count: usize, list: &mut Vec<[u16; 7]>) {
+        self.train_pool = comers(&mut self.rng);
+        for train in self.train_pool.clone().into_iter().take(count) {
+            if self.rng.chance(8) {
+                self.refused_move(list);
+            }
+            self.enter(train, list);
+        }
+    }
+
+    fn refused_move(&mut self, list: &mut Vec<[u16; 7]>) {
+        let want = self.rng.pick(&[9, 12, 17, 17, 18, 19]);
+        let numbers = self.candidate(12, want);
+        self.apply(&numbers);
+        list.push(numbers);
+    }
+
+    fn come_and_go(&mut self, list: &mut Vec<[u16; 7]>) {
+        let count = self.rng.pick(&[2, 5, 12, 31, 32, 32, 34]);
+        self.come(count, list);
+        self.mood = self.rng.pick(&[TRAFFIC, DRAIN, EVEN]);
+        let mut gone = Vec::new();
+        while list.len() < FEW {
+            match self.rng.below(10) {
+                0..=2 => gone.extend(self.leave(list)),
+                3..=5 => {
+                    let train = self.comer(&gone);
+                    self.enter(train, list);
+                }
+                6 => self.refused_move(list),
+                _ => {
+                    let numbers = self.next_call();
+                    self.apply(&numbers);
+                    list.push(numbers);
+                }
+            }
+        }
+    }
+
+    /// Trains into one or two TOAs, and then calls of which many are CONTINUE,
+    /// CLEAR and FULFIL.
+    fn under_authority(&mut self, list: &mut Vec<[u16; 7]>) {
+        let officer = self.any_officer();
+        let most = self.board.portions - 1;
+        for _ in 0..self.rng.below(3) {
+            let fields = self.good_request();
+            self.add(1, fields, list);
+        }
+        let limits = self.rng.pick(&[(0, most), (0, most / 2), (most, most)]);
+        let rest = if limits.0 > 0 { (0, limits.0 - 1) } else { (limits.1 + 1, most) };
+        let two = rest.0 <= rest.1 && self.rng.chance(50);
+        for &(first, last) in [limits, rest].iter().take(1 + usize::from(two)) {
+            if let Some(toa) = self.ask([2, first, last, officer], list) {
+                self.add(6, [toa, officer, 0, 0], list);
+            }
+        }
+        let count = self.rng.pick(&[3, 6, 12, 24, 33]);
+        self.come(count, list);
+        let mut gone = Vec::new();
+        while list.len() < FEW {
+            self.mood = self.rng.pick(&[RENEW, RENEW, WIND_DOWN, TRAFFIC]);
+            match self.rng.below(10) {
+                0 => gone.extend(self.leave(list)),
+                1..=2 => {
+                    let train = self.comer(&gone);
+                    self.enter(train, list);
+                }
+                3 => {
+                    let one = self.pick_live(|one| one.is_in_force());
+                    if let (Some(one), true) = (one, self.rng.chance(40)) {
+                        self.end(&one, list);
+                    }
+                }
+                4 => {
+                    // for CONTINUE: limits that hold the trains' heads
+                    let fields = [self.rng.pick(&[2, 2, 3]), limits.0, self.rng.between(limits.0, most), officer];
+                    self.ask(fields, list);
+                }
+                _ => {
+                    let numbers = self.next_call();
+                    self.apply(&numbers);
+                    list.push(numbers);
+                }
+            }
+        }
+    }
+
+    /// Authorities asked for, up to 32 and beyond, and ended, often the first or
+    /// the last of them.
+    fn turnover(&mut self, list: &mut Vec<[u16; 7]>) {
+        for _ in 0..self.rng.pick(&[4, 12, 31, 32, 33]) {
+            let fields = self.good_request();
+            self.add(1, fields, list);
+        }
+        while list.len() < FEW {
+            let mut live = self.board.live.clone();
+            live.sort_by_key(|one| one.number.0);
+            let call = match self.rng.below(10) {
+                0..=2 => {
+                    let one = match self.rng.below(3) {
+                        0 => live.first().copied(),
+                        1 => live.last().copied(),
+                        _ => self.pick_live(|_| true),
+                    };
+                    if let Some(one) = one {
+                        self.end(&one, list);
+                    }
+                    continue;
+                }
+                3 | 4 => 1,
+                5 | 6 => 6,
+                7 | 8 => 11,
+                _ => self.rng.pick(&[4, 12]),
+            };
+            // the last of them by a lower number, if that can be
+            let old = live.last().filter(|one| call == 11 && one.is_in_force());
+            if let (Some(old), Some(new)) = (old, self.pick_live(|one| one.is_pending() && one.kind != Kind::Lpa)) {
+                self.add(11, [old.number.0, new.number.0, old.officer, new.officer], list);
+                continue;
+            }
+            let numbers = self.candidate(call, 0);
+            self.apply(&numbers);
+            list.push(numbers);
+        }
     }
 }
 
@@ -2082,7 +2399,7 @@ fn seeded(seed: u64, kind: &str) -> Rng {
 }
 
 fn run(arguments: &[String]) -> Result<(), String> {
-    let usage = "usage: generate SEED steered|numbers|damaged|short|wild|shift|limits OUTDIR, or generate SEED busy N OUTDIR";
+    let usage = "usage: generate SEED steered|numbers|damaged|short|wild|shift|limits|trains OUTDIR, or generate SEED busy N OUTDIR";
     let (seed, kind, folder) = match arguments {
         [seed, kind, .., folder] => (seed, kind.as_str(), Path::new(folder)),
         _ => return Err(usage.to_string()),
@@ -2096,6 +2413,7 @@ fn run(arguments: &[String]) -> Result<(), String> {
         ("wild", 3) => wild(rng),
         ("shift", 3) => shift(rng),
         ("limits", 3) => limits(rng),
+        ("trains", 3) => trains(rng),
         ("busy", 4) => {
             let count = arguments[2].parse().map_err(|_| usage)?;
             return busy(rng, count, folder).map_err(|error| error.to_string());

@@ -1,13 +1,14 @@
-//! The track authority board, read from 01-scope.md and orders 1 to 4 of
+//! The track authority board, read from 01-scope.md and orders 1 to 5 of
 //! 02-change-requests.md and from nothing else.
 //!
 //! A plain program: it reads the files `plan` and `calls` in the working
 //! folder and prints the journal on standard output; with the argument `sheet`
-//! it prints order 2's shift sheet instead. Quotation marks in the comments
-//! hold the papers' own words; what isn't marked as an order's is 01's. Each
-//! call is one function of the board; its conditions for refusal are tested in
-//! ascending order of their numbers, because "the lowest number whose
-//! condition holds is given".
+//! it prints order 2's shift sheet instead, and with `held` the live
+//! authorities and the trains that the register then holds, in its order.
+//! Quotation marks in the comments hold the papers' own words; what isn't
+//! marked as an order's is 01's. Each call is one function of the board; its
+//! conditions for refusal are tested in ascending order of their numbers,
+//! because "the lowest number whose condition holds is given".
 //!
 //! Build: rustc -O reference.rs
 //! As a module: #[path = "reference.rs"] mod reference;
@@ -103,7 +104,7 @@ fn refuse_if(condition: bool, refusal: Refusal) -> Result<(), Refusal> {
 /// one another."
 #[derive(Clone, Copy, PartialEq, Eq, Debug)]
 pub struct AuthorityNumber(pub u16);
-#[derive(Clone, Copy, PartialEq, Eq, Debug)]
+#[derive(Clone, Copy, PartialEq, Eq, PartialOrd, Ord, Debug)]
 pub struct TrainNumber(pub u16);
 #[derive(Clone, Copy, PartialEq, Eq, Debug)]
 pub struct GateNumber(pub u16);
@@ -113,6 +114,16 @@ pub struct GateNumber(pub u16);
 pub enum Place {
     Portion(u16),
     Outside,
+}
+
+impl Place {
+    /// As the plan has it: the portion's number, or 99.
+    pub fn number(self) -> u16 {
+        match self {
+            Place::Portion(portion) => portion,
+            Place::Outside => OUTSIDE,
+        }
+    }
 }
 
 /// Order 3: "The set "all portions up to n"", "the 64 sets in a constant table,
@@ -398,6 +409,11 @@ fn train_in_range(train: u16) -> bool {
 // The board
 // ---------------------------------------------------------------------------
 
+/// Order 5: "Hold live authorities and trains by ascending number after every
+/// call". A call finds them so, since it "is handed a register that opening or
+/// an earlier call returned". "The comparison with document 01's register
+/// includes that order from now on": of two boards the lists are compared place
+/// by place.
 #[derive(Clone, PartialEq, Eq, Debug)]
 pub struct Board {
     /// P
@@ -407,10 +423,13 @@ pub struct Board {
     pub last_stamp: Stamp,
     pub last_number: u16,
     pub blocked: Gates,
-    /// the live authorities, at most 32, in "the register's order" of order 2:
-    /// a new one goes to the end, and when one ends the others keep theirs
+    /// the live authorities, at most 32, "by ascending number": a new one has
+    /// the highest and goes to the end, and when one ends the others keep their
+    /// order
     pub live: Vec<Authority>,
-    /// the trains on the board, at most 32, in any order
+    /// the trains on the board, at most 32, "by ascending number": one that
+    /// comes is put in its place, and when one leaves the others keep their
+    /// order
     pub trains: Vec<Train>,
 }
 
@@ -445,9 +464,13 @@ impl Board {
             }
             gates.push(Gate { from, to, kind: kind as u16 });
         }
-        // "A freshly opened board has no authority, no train, no block, last
-        // stamp day 0 time 0, last number 0."
-        Some(Board {
+        Some(Board::fresh(portions, gates))
+    }
+
+    /// "A freshly opened board has no authority, no train, no block, last stamp
+    /// day 0 time 0, last number 0."
+    fn fresh(portions: u16, gates: Vec<Gate>) -> Board {
+        Board {
             portions,
             gates,
             last_stamp: Stamp { day: 0, time: 0 },
@@ -455,7 +478,12 @@ impl Board {
             blocked: Gates(0),
             live: Vec::with_capacity(MOST_LIVE),
             trains: Vec::with_capacity(MOST_TRAINS),
-        })
+        }
+    }
+
+    /// "The closed board is the same with P = G = 0."
+    pub fn closed() -> Board {
+        Board::fresh(0, Vec::new())
     }
 
     /// One call of seven numbers: day, time, call, then four fields. Gives the
@@ -503,7 +531,9 @@ impl Board {
         // 9 "32 held, or 9999 allotted"
         refuse_if(self.live.len() == MOST_LIVE || self.last_number == LAST_NUMBER, Refusal::Full)?;
 
-        // "Adds it pending, site clear, agreed 0"; a term comes with TERM.
+        // "Adds it pending, site clear, agreed 0"; a term comes with TERM. Order
+        // 5, "by ascending number": "Numbers are allotted 1, 2, 3 up to 9999 and
+        // never reused", so its place is behind all others.
         let limits = Portions::first_to_last(first, last);
         self.last_number += 1;
         self.live.push(Authority {
@@ -533,7 +563,7 @@ impl Board {
         // 7 "not the authority's officer"
         refuse_if(self.live[at].officer != officer, Refusal::Officer)?;
 
-        // "It is live until withdrawn".
+        // "It is live until withdrawn". Order 5: the others keep their order.
         self.live.remove(at);
         Ok(0)
     }
@@ -710,7 +740,8 @@ impl Board {
         refuse_if(assurances != 7, Refusal::Assurance)?;
 
         // "It is live until ... fulfilled". "Trains with it are then with 0.
-        // Blocks stay on."
+        // Blocks stay on." Order 5: the others keep their order, and so do the
+        // trains.
         let ended = self.live.remove(at).number;
         for train in self.trains.iter_mut().filter(|train| train.with == Some(ended)) {
             train.with = None;
@@ -752,7 +783,8 @@ impl Board {
         // 22 "an LPA has no term or the minute is outside it", for the new
         refuse_if(the_new.is_outside_term(stamp), Refusal::OutsideTerm)?;
 
-        // "Old ends, new is in force with workers on."
+        // "Old ends, new is in force with workers on." Order 5: new stays in
+        // the place of its own number, whatever old's was.
         self.put_in_force(new_at);
         self.live.remove(old_at);
         // "Trains with old are then with new if their head is in its limits,
@@ -817,7 +849,11 @@ impl Board {
                 self.trains[at].head = to;
                 self.trains[at].with = with;
             }
-            None => self.trains.push(Train { number: train, head: to, rear: to, with }),
+            None => {
+                // Order 5, "by ascending number": behind all with a lower one.
+                let at = self.trains.partition_point(|one| one.number < train);
+                self.trains.insert(at, Train { number: train, head: to, rear: to, with });
+            }
         }
         Ok(0)
     }
@@ -835,9 +871,10 @@ impl Board {
         // 17 "not on the board"
         let at = train_at.ok_or(Refusal::NoTrain)?;
 
-        // "Rear becomes head; a head outside takes the train off."
+        // "Rear becomes head; a head outside takes the train off." Order 5: the
+        // others keep their order.
         if self.trains[at].head == Place::Outside {
-            self.trains.swap_remove(at);
+            self.trains.remove(at);
         } else {
             self.trains[at].rear = self.trains[at].head;
         }
@@ -911,7 +948,8 @@ impl Board {
     /// Order 2, the shift sheet: "one line a live authority", "Lines stand in
     /// the register's order", and "The last line counts the portions held and
     /// the gates blocked". "The lent buffer must hold 33 lines of 73 bytes;
-    /// later bytes stay and the number of lines comes back."
+    /// later bytes stay and the number of lines comes back." Order 5: "by
+    /// ascending number", "and print so".
     pub fn sheet(&self, buffer: &mut [u8]) -> Result<usize, Refusal> {
         // 23 "when it is shorter, with nothing written"
         refuse_if(buffer.len() < SHEET, Refusal::ShortSheet)?;
@@ -927,6 +965,25 @@ impl Board {
             write_sheet_line(cells, line);
         }
         Ok(lines.len())
+    }
+
+    // ----- what is held -----
+
+    /// Order 5: the live authorities and the trains in the order in which they
+    /// are held, "by ascending number", "and print so". The papers give no page
+    /// for it, so this is the panel's: the number of each authority, and each
+    /// train's number, head (99 for outside), rear and the authority it is with
+    /// (0 for none), in 6 columns each, under two words.
+    pub fn write_held(&self, output: &mut Vec<u8>) {
+        output.extend_from_slice(b"authorities\n");
+        for one in &self.live {
+            write_line(&[one.number.0], output);
+        }
+        output.extend_from_slice(b"trains\n");
+        for one in &self.trains {
+            let with = one.with.map_or(0, |number| number.0);
+            write_line(&[one.number.0, one.head.number(), one.rear.number(), with], output);
+        }
     }
 
     // ----- what several calls ask -----
@@ -1076,6 +1133,16 @@ pub fn write_journal_line(numbers: &[u16; 7], answer: u16, allotted: u16) -> [u8
     line
 }
 
+/// Numbers in 6 columns each, then a line feed.
+fn write_line(numbers: &[u16], output: &mut Vec<u8>) {
+    for number in numbers {
+        let mut columns = [0; COLUMNS];
+        write_number(*number, &mut columns);
+        output.extend_from_slice(&columns);
+    }
+    output.push(b'\n');
+}
+
 /// Order 2: a number on the sheet, or a blank.
 pub type Cell = Option<i32>;
 pub const BLANK: Cell = None;
@@ -1117,7 +1184,7 @@ fn write_sheet_line(cells: &[Cell; CELLS], line: &mut [u8]) {
 }
 
 // ---------------------------------------------------------------------------
-// The journal program and the sheet program
+// The journal program, the sheet program and what the register holds
 // ---------------------------------------------------------------------------
 
 /// Lines read and written at a time: some 350 kB in, 450 kB out.
@@ -1161,10 +1228,9 @@ pub fn run_calls(board: &mut Board, calls: &mut impl Read, journal: &mut impl Wr
     }
 }
 
-/// Makes all the calls and prints the sheet of the register that they leave. A
-/// malformed call line, which a short last line is too, leaves nothing to sign:
-/// then nothing is printed, and the error names the line.
-pub fn run_sheet(board: &mut Board, calls: &mut impl Read, page: &mut impl Write) -> io::Result<()> {
+/// Makes all the calls. A malformed call line, which a short last line is too,
+/// is an error that names the line.
+fn make_all(board: &mut Board, calls: &mut impl Read) -> io::Result<()> {
     let mut input = vec![0; PIECE * CALL_LINE];
     let mut made = 0;
     loop {
@@ -1177,24 +1243,54 @@ pub fn run_sheet(board: &mut Board, calls: &mut impl Read, page: &mut impl Write
             made += 1;
         }
         if filled < input.len() {
-            break;
+            return Ok(());
         }
     }
+}
+
+/// Makes all the calls and prints the sheet of the register that they leave. A
+/// malformed call line leaves nothing to sign: then nothing is printed.
+pub fn run_sheet(board: &mut Board, calls: &mut impl Read, page: &mut impl Write) -> io::Result<()> {
+    make_all(board, calls)?;
     let mut buffer = [0; SHEET];
     let lines = board.sheet(&mut buffer).expect("the buffer holds a sheet");
     page.write_all(&buffer[..lines * SHEET_LINE])?;
     page.flush()
 }
 
-pub fn run(sheet: bool) -> io::Result<()> {
+/// Makes all the calls and prints what the register then holds; for a refused
+/// plan first its number, and the calls are put to the closed board. After a
+/// malformed call line nothing is printed.
+pub fn run_held(opened: Result<Board, Refusal>, calls: &mut impl Read, output: &mut impl Write) -> io::Result<()> {
+    let mut held = Vec::new();
+    let mut board = opened.unwrap_or_else(|refusal| {
+        write_line(&[refusal as u16], &mut held);
+        Board::closed()
+    });
+    make_all(&mut board, calls)?;
+    board.write_held(&mut held);
+    output.write_all(&held)?;
+    output.flush()
+}
+
+/// What the program prints.
+#[derive(Clone, Copy, PartialEq, Eq, Debug)]
+pub enum Print {
+    Journal,
+    Sheet,
+    Held,
+}
+
+pub fn run(print: Print) -> io::Result<()> {
     let mut output = io::stdout().lock();
     // One byte more than the longest right plan shows a plan that is too long.
     let mut plan = [0; PLAN_LINE * (1 + MOST_GATES as usize) + 1];
     let length = fill(&mut File::open("plan")?, &mut plan)?;
-    match Board::open(&plan[..length]) {
-        Ok(mut board) if sheet => run_sheet(&mut board, &mut File::open("calls")?, &mut output),
-        Ok(mut board) => run_calls(&mut board, &mut File::open("calls")?, &mut output),
-        Err(refusal) => {
+    match (print, Board::open(&plan[..length])) {
+        (Print::Held, opened) => run_held(opened, &mut File::open("calls")?, &mut output),
+        (Print::Sheet, Ok(mut board)) => run_sheet(&mut board, &mut File::open("calls")?, &mut output),
+        (Print::Journal, Ok(mut board)) => run_calls(&mut board, &mut File::open("calls")?, &mut output),
+        (_, Err(refusal)) => {
             // "a refused plan prints only `    20` and a line feed"
             let mut line = [b'\n'; COLUMNS + 1];
             write_number(refusal as u16, &mut line[..COLUMNS]);
@@ -1206,15 +1302,16 @@ pub fn run(sheet: bool) -> io::Result<()> {
 
 pub fn main() -> ExitCode {
     let arguments: Vec<String> = env::args().skip(1).collect();
-    let sheet = match arguments.as_slice() {
-        [] => false,
-        [word] if word == "sheet" => true,
+    let print = match arguments.as_slice() {
+        [] => Print::Journal,
+        [word] if word == "sheet" => Print::Sheet,
+        [word] if word == "held" => Print::Held,
         _ => {
-            eprintln!("usage: reference [sheet]");
+            eprintln!("usage: reference [sheet|held]");
             return ExitCode::FAILURE;
         }
     };
-    match run(sheet) {
+    match run(print) {
         Ok(()) => ExitCode::SUCCESS,
         Err(error) => {
             eprintln!("reference: {error}");
