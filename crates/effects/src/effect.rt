@@ -27,8 +27,8 @@ use rules::GateNo;
 use rules::Seven;
 use rules::Train;
 use rules::TrainNo;
+use traffic::TrainChange;
 use trains::FoundTrain;
-use trains::TrainChange;
 
 fn fulfil(
     head: Head,
@@ -44,7 +44,7 @@ fn fulfil(
 {
     let mut out = head;
     out.live = authorities::end_authority(authorities, head.live, n);
-    trains::change_trains(trains, head.running, TrainChange::Freed(n));
+    traffic::change_trains(trains, head.running, TrainChange::Freed(n));
     out
 }
 
@@ -82,7 +82,7 @@ fn continue_as(
     let mut out = head;
     out.live = authorities::end_authority(authorities, head.live, old);
     authorities::amend(authorities, out.live, new, Change::Granted);
-    trains::change_trains(
+    traffic::change_trains(
         trains,
         head.running,
         TrainChange::Continued(old, new, limits),
@@ -112,10 +112,10 @@ fn move_train(
             rear: gate.to,
             with: n,
         };
-        trains::insert_train(trains, head.running, entered);
+        traffic::insert_train(trains, head.running, entered);
         out.running = head.running + 1;
     } else {
-        trains::change_trains(trains, head.running, TrainChange::Head(t, gate.to, n));
+        traffic::change_trains(trains, head.running, TrainChange::Head(t, gate.to, n));
     }
     out
 }
@@ -149,9 +149,9 @@ fn passed(
 {
     let mut out = head;
     if is_head_outside(head, gates, authorities, trains, t) {
-        out.running = trains::remove_train(trains, head.running, t);
+        out.running = traffic::remove_train(trains, head.running, t);
     } else {
-        trains::change_trains(trains, head.running, TrainChange::RearIn(t));
+        traffic::change_trains(trains, head.running, TrainChange::RearIn(t));
     }
     out
 }

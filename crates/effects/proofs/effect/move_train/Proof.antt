@@ -5,7 +5,7 @@ use native.Mathlib.Omega.{arith}
 use borrow.Author.Tests.{eq-eqb, ne-eqb}
 use Rattle.rules.specs.Board.{boardOf}
 use Rattle.rules.specs.Effects.{effect}
-use Rattle.trains.specs.Trains.{trainTest, trainChange}
+use Rattle.traffic.specs.Changes.{trainTest, trainChange}
 use Rattle.changes.proofs.Changing.{trains-effect}
 use Rattle.effects.proofs.effect.move_train.Statement.{statement}
 use Rattle.effects.proofs.effect.move_train.Tie as tie

@@ -3,7 +3,7 @@ use borrow.Author.Needs.{needs}
 use mathlib.Core.Path.{sym, _∙_}
 use Rattle.rules.specs.Board.{boardOf}
 use Rattle.rules.specs.Effects.{effect}
-use Rattle.trains.specs.Trains.{trainTest, trainChange}
+use Rattle.traffic.specs.Changes.{trainTest, trainChange}
 use Rattle.changes.proofs.Changing.{trains-effect}
 use Rattle.effects.proofs.effect.passed.Statement.{statement}
 use Rattle.effects.proofs.effect.passed.Tie as tie

@@ -1,8 +1,8 @@
--- `trains::is_changed` meets its contract. Assumes nothing.
+-- `traffic::is_changed` meets its contract. Assumes nothing.
 use borrow.Author.Needs.{needs}
-use Rattle.trains.specs.Trains.{trainTest}
-use Rattle.trains.proofs.is_changed.Statement.{statement}
-use Rattle.trains.proofs.is_changed.Tie as tie
+use Rattle.traffic.specs.Changes.{trainTest}
+use Rattle.traffic.proofs.is_changed.Statement.{statement}
+use Rattle.traffic.proofs.is_changed.Tie as tie
 
 enum-known-c : tie.Need-enum-known-c
 enum-known-c c = search needs

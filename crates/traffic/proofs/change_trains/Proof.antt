@@ -1,14 +1,14 @@
--- `trains::change_trains` meets its contract. The invariant: the places before i are changed, and nothing else. Assumes nothing.
+-- `traffic::change_trains` meets its contract. The invariant: the places before i are changed, and nothing else. Assumes nothing.
 use Prim.Native.Nat.{_-_}
 use native.Mathlib.Omega.{arith}
 use mathlib.Core.Logic.{⊎-elim}
 use mathlib.Core.Path.{sym, ap, _∙_}
 use Rattle.places.specs.Places.{trainsIn}
 use Rattle.places.proofs.Registers.{trains-length}
-use Rattle.trains.specs.Trains.{trainTest, trainChange}
+use Rattle.traffic.specs.Changes.{trainTest, trainChange}
 use Rattle.lists.proofs.Loops.{Changing, changing-start, changing-hit, changing-miss, changing-end}
-use Rattle.trains.proofs.change_trains.Statement.{statement}
-use Rattle.trains.proofs.change_trains.Tie as tie
+use Rattle.traffic.proofs.change_trains.Statement.{statement}
+use Rattle.traffic.proofs.change_trains.Tie as tie
 
 abbrev Inv-loop : tie.InvT-loop
 Inv-loop trains₀ running c i₀ trains i = Changing (trainTest c) (trainChange c) (trainsIn trains₀) (trainsIn trains) running i

@@ -1,9 +1,9 @@
--- `trains::changed_train` meets its contract. Assumes nothing.
+-- `traffic::changed_train` meets its contract. Assumes nothing.
 use mathlib.Core.Path.{sym, _∙_}
 use borrow.Author.Needs.{needs}
-use Rattle.trains.specs.Trains.{trainChange}
-use Rattle.trains.proofs.changed_train.Statement.{statement}
-use Rattle.trains.proofs.changed_train.Tie as tie
+use Rattle.traffic.specs.Changes.{trainChange}
+use Rattle.traffic.proofs.changed_train.Statement.{statement}
+use Rattle.traffic.proofs.changed_train.Tie as tie
 
 enum-known-c : tie.Need-enum-known-c
 enum-known-c c = search needs

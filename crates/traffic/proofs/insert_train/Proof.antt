@@ -1,4 +1,4 @@
--- `trains::insert_train` meets its contract. The invariant: the places before i and the train carried are those before i with the new one inserted,
+-- `traffic::insert_train` meets its contract. The invariant: the places before i and the train carried are those before i with the new one inserted,
 -- and those from i on are as they were. Assumes nothing.
 use Prim.Native.Nat.{_-_}
 use native.Mathlib.Omega.{arith}
@@ -8,8 +8,8 @@ use Rattle.rules.specs.Board.{trainNo}
 use Rattle.places.specs.Places.{trainsIn}
 use Rattle.places.proofs.Registers.{trains-length}
 use Rattle.lists.proofs.Loops.{Inserting, inserting-start, inserting-hit, inserting-miss, inserting-end}
-use Rattle.trains.proofs.insert_train.Statement.{statement}
-use Rattle.trains.proofs.insert_train.Tie as tie
+use Rattle.traffic.proofs.insert_train.Statement.{statement}
+use Rattle.traffic.proofs.insert_train.Tie as tie
 
 abbrev Inv-loop : tie.InvT-loop
 Inv-loop trains₀ running t carried₀ met₀ i₀ trains carried met i = Inserting trainNo t (trainsIn trains₀) (trainsIn trains) running i carried met

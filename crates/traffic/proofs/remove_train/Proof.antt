@@ -1,4 +1,4 @@
--- `trains::remove_train` meets its contract. The invariant: the first j places hold what is kept of those before i, and those from i on
+-- `traffic::remove_train` meets its contract. The invariant: the first j places hold what is kept of those before i, and those from i on
 -- are as they were. Assumes nothing.
 use Prim.Native.Nat.{_-_}
 use native.Mathlib.Omega.{arith}
@@ -10,8 +10,8 @@ use Rattle.rules.specs.Board.{isNotTrain}
 use Rattle.places.specs.Places.{trainsIn}
 use Rattle.places.proofs.Registers.{trains-length}
 use Rattle.lists.proofs.Loops.{Keeping, keeping-start, keeping-hit, keeping-miss, keeping-end}
-use Rattle.trains.proofs.remove_train.Statement.{statement}
-use Rattle.trains.proofs.remove_train.Tie as tie
+use Rattle.traffic.proofs.remove_train.Statement.{statement}
+use Rattle.traffic.proofs.remove_train.Tie as tie
 
 abbrev Inv-loop : tie.InvT-loop
 Inv-loop trains₀ running n i₀ j₀ trains i j = Keeping (isNotTrain (n .0)) (trainsIn trains₀) (trainsIn trains) running i j
