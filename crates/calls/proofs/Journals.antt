@@ -13,7 +13,7 @@ use Rattle.lists.proofs.Tests.{and-l, and-r}
 use Rattle.columns.specs.Column.{column, fits}
 use Rattle.columns.specs.Line.{line, allFit, Written, withLine}
 use Rattle.columns.proofs.Writing.{column-length, total, writable-room, line-length}
-use Rattle.columns.proofs.Rows.{atMost}
+use Rattle.reading.proofs.Rows.{atMost}
 use Rattle.rules.specs.declared.Seven.{Seven}
 use Rattle.rules.specs.Journal.{journalLine}
 use Rattle.lines.specs.declared.Line.the-variants.{Call}

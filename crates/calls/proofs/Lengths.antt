@@ -9,7 +9,7 @@ use lib.Dec.{eqb, leb}
 use borrow.Author.Tests.{leb-true}
 use Rattle.lists.proofs.Tests.{and-l, and-r}
 use Rattle.lists.proofs.Search.{Each}
-use Rattle.columns.proofs.Rows.{atMost}
+use Rattle.reading.proofs.Rows.{atMost}
 use Rattle.rules.specs.declared.Seven.{Seven}
 use Rattle.rules.specs.Board.{Board}
 use Rattle.rules.specs.Refusals.{answer}

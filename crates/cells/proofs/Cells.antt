@@ -16,11 +16,11 @@ use Rattle.lists.proofs.Search.{any-append}
 use Rattle.lists.proofs.Tests.{and-l, and-r}
 use Rattle.columns.specs.Column.{digits, column, fits}
 use Rattle.columns.specs.Line.{line}
-use Rattle.columns.specs.Reading.{blanks, valueFrom}
+use Rattle.reading.specs.Reading.{blanks, valueFrom}
 use Rattle.columns.proofs.Digits.{digits-one, digits-more}
 use Rattle.columns.proofs.Writing.{part-done, total}
-use Rattle.columns.proofs.Scan.{by-tenths, starts, value-digits, blanks-front, blanks-le}
-use Rattle.columns.proofs.Texts.{value-blanks}
+use Rattle.reading.proofs.Scan.{by-tenths, starts, value-digits, blanks-front, blanks-le}
+use Rattle.reading.proofs.Texts.{value-blanks}
 use Rattle.cells.specs.declared.Cell.{Cell}
 use Rattle.cells.specs.declared.Cell.the-variants.{Empty, Number, Minus}
 use Rattle.cells.specs.Cells.{difference, marks, cell, cellFits, Filled, cellLine, cellsFit, isPrinted, isMinus, cellIn}

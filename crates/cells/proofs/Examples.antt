@@ -4,7 +4,7 @@ use mathlib.Core.Bool.{false}
 use Rattle.lists.specs.Search.{any}
 use Rattle.columns.specs.Text.{bytes}
 use Rattle.columns.specs.Column.{digitsIn, digits}
-use Rattle.columns.specs.Reading.{valueFrom}
+use Rattle.reading.specs.Reading.{valueFrom}
 use Rattle.cells.specs.declared.Cell.the-variants.{Empty, Minus}
 use Rattle.cells.specs.Cells.{difference, marks, cell, cellFits, cellIn}
 

@@ -7,7 +7,7 @@ use lib.Dec.{eqb, leb, ltb}
 use lib.ListN.{length, replicate}
 use Rattle.lists.specs.Search.{any}
 use Rattle.columns.specs.Column.{digits}
-use Rattle.columns.specs.Reading.{valueFrom}
+use Rattle.reading.specs.Reading.{valueFrom}
 use Rattle.cells.specs.declared.Cell.{Cell}
 use Rattle.cells.specs.declared.Cell.the-variants.{Empty, Number, Minus}
 

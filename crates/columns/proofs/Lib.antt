@@ -2,8 +2,4 @@
 pub mod Digits
 pub mod Writing
 mod Filling
-pub mod Scan
-pub mod Texts
-pub mod Reading
-pub mod Rows
 pub mod Examples

@@ -1,6 +1,5 @@
 -- The definitions that the contracts of this crate cite, in reading order.
 pub mod Column
 pub mod Line
-pub mod Reading
 pub mod Steps
 pub mod Text

@@ -11,13 +11,13 @@ use lib.Dec.{eqb, leb}
 use lib.ListN.{length, take, drop, getD}
 use lib.Seq.{drop-cons}
 use Rattle.lists.proofs.Tests.{told, clash, same-test}
-use Rattle.columns.specs.declared.read.Read.{Read}
-use Rattle.columns.specs.declared.read.Read.the-variants.{Number, Malformed}
+use Rattle.reading.specs.declared.Read.{Read}
+use Rattle.reading.specs.declared.Read.the-variants.{Number, Malformed}
 use Rattle.columns.specs.Column.{column}
-use Rattle.columns.specs.Reading.{readColumn}
+use Rattle.reading.specs.Reading.{readColumn}
 use Rattle.columns.specs.Steps.{mark}
 use Rattle.columns.proofs.Writing.{fits-below, front, column-front}
-use Rattle.columns.proofs.Reading.{read-column, column-read, read-most}
+use Rattle.reading.proofs.Reading.{read-column, column-read, read-most}
 use Rattle.lines.specs.Steps.{isMark}
 
 -- the bytes of a number below 100000 in six columns

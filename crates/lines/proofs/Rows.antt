@@ -9,13 +9,13 @@ use lib.Dec.{eqb}
 use lib.ListN.{length, take, drop, getD, replicate, length-drop}
 use lib.Seq.{drop-drop}
 use Rattle.lists.proofs.Tests.{truth, and-l, and-r, lt-or-le}
-use Rattle.columns.specs.declared.read.Read.{Read}
-use Rattle.columns.specs.declared.read.Read.the-variants as read
+use Rattle.reading.specs.declared.Read.{Read}
+use Rattle.reading.specs.declared.Read.the-variants as read
 use Rattle.columns.specs.Line.{line}
-use Rattle.columns.specs.Reading.{readColumn, firstColumn, Row, withColumn, rowOf}
+use Rattle.reading.specs.Reading.{readColumn, firstColumn, Row, withColumn, rowOf}
 use Rattle.columns.proofs.Writing.{total}
-use Rattle.columns.proofs.Reading.{read-most}
-use Rattle.columns.proofs.Rows.{ended, first-part, first-short, end-one, line-read}
+use Rattle.reading.proofs.Reading.{read-most}
+use Rattle.reading.proofs.Rows.{ended, first-part, first-short, end-one, line-read}
 use Rattle.lines.specs.declared.Six.{Six}
 use Rattle.lines.specs.declared.Line.the-variants.{Call, Malformed}
 use Rattle.lines.specs.Line.{callWidths, sevenOf, lineIn}

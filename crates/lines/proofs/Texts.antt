@@ -11,9 +11,9 @@ use borrow.Author.Tests.{leb-true}
 use Rattle.lists.proofs.Tests.{and-l, and-r, and-i}
 use Rattle.columns.specs.Column.{fits}
 use Rattle.columns.specs.Line.{allFit}
-use Rattle.columns.specs.Reading.{rowOf}
+use Rattle.reading.specs.Reading.{rowOf}
 use Rattle.columns.proofs.Writing.{fits-below, total, line-length}
-use Rattle.columns.proofs.Rows.{atMost, IsLine, line-read}
+use Rattle.reading.proofs.Rows.{atMost, IsLine, line-read}
 use Rattle.rules.specs.declared.Seven.{Seven}
 use Rattle.lines.specs.declared.Line.the-variants.{Call, Malformed}
 use Rattle.lines.specs.Line.{callWidths, sevenOf, lineIn}

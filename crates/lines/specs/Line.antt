@@ -3,7 +3,7 @@ use Prim.Native.Nat.{ℕ}
 use mathlib.Core.Bool.{cond}
 use mathlib.Core.List.{List, [], _∷_}
 use lib.ListN.{getD}
-use Rattle.columns.specs.Reading.{rowOf}
+use Rattle.reading.specs.Reading.{rowOf}
 use Rattle.rules.specs.declared.Seven.{Seven}
 use Rattle.lines.specs.declared.Line.{Line}
 use Rattle.lines.specs.declared.Line.the-variants.{Call, Malformed}

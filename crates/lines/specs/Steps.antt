@@ -3,8 +3,8 @@
 use Prim.Native.Nat.{ℕ}
 use mathlib.Core.Bool.{Bool, cond, _&&_}
 use lib.Dec.{eqb, leb}
-use Rattle.columns.specs.declared.read.Read.{Read}
-use Rattle.columns.specs.declared.read.Read.the-variants.{Number, Malformed}
+use Rattle.reading.specs.declared.Read.{Read}
+use Rattle.reading.specs.declared.Read.the-variants.{Number, Malformed}
 use Rattle.lines.specs.declared.Six.{Six}
 
 -- the byte is a digit where one is due, else a blank

@@ -2,7 +2,7 @@
 ghost use mathlib.Core.Path.{_≡_};
 ghost use Prim.Native.Nat.{_+_, _≤_, _%_};
 ghost use lib.ListN.{length, take, drop};
-ghost use Rattle.columns.specs.Reading.{readColumn};
+ghost use Rattle.reading.specs.Reading.{readColumn};
 ghost use Rattle.lines.specs.Line.{lineIn};
 ghost use Rattle.lines.specs.Steps.{isMark, readOf};
 use rules::Seven;

@@ -13,10 +13,10 @@ use lib.Seq.{drop-drop}
 use Rattle.lists.specs.Prefix.{prefix}
 use Rattle.lists.proofs.Tests.{told, and-i}
 use Rattle.lists.proofs.Prefix.{stored-last}
-use Rattle.columns.specs.declared.read.Read.{Read}
-use Rattle.columns.specs.declared.read.Read.the-variants.{Number, Malformed}
-use Rattle.columns.specs.Reading.{readColumn, firstColumn, Row, withColumn, rowOf, over, RowRead}
-use Rattle.columns.proofs.Reading.{read-most}
+use Rattle.reading.specs.declared.Read.{Read}
+use Rattle.reading.specs.declared.Read.the-variants.{Number, Malformed}
+use Rattle.reading.specs.Reading.{readColumn, firstColumn, Row, withColumn, rowOf, over, RowRead}
+use Rattle.reading.proofs.Reading.{read-most}
 use Rattle.rules.specs.declared.Gate.{Gate}
 use Rattle.rules.specs.Board.{closed}
 use Rattle.rules.specs.Plan.{planWidths, planLine, planNumber, isHead, isGate, gateOn, areGates, gatesOn, isPlan, openBoard}

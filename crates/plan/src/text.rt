@@ -44,7 +44,7 @@ fn read_line(text: &[u8]) -> Line
         end = 19;
     }
     let mut numbers = [0u32; 3];
-    let whole = columns::read_row(&text[0..end], &[6u8; 3], 65535, &mut numbers);
+    let whole = reading::read_row(&text[0..end], &[6u8; 3], 65535, &mut numbers);
     Line {
         whole,
         x: narrow(numbers[0]),

@@ -4,7 +4,7 @@ use mathlib.Core.Bool.{Bool, true, cond, not, _&&_, _||_}
 use mathlib.Core.List.{List, [], _∷_}
 use lib.ListN.{length, take, drop, getD}
 use lib.Dec.{eqb, leb, ltb}
-use Rattle.columns.specs.Reading.{Row, rowOf}
+use Rattle.reading.specs.Reading.{Row, rowOf}
 use Rattle.rules.specs.declared.Gate.{Gate}
 use Rattle.rules.specs.Board.{Board, opened, closed, isOutside}
 use Rattle.rules.specs.Call.{between}

@@ -11,12 +11,12 @@ use lib.Dec.{eqb}
 use lib.ListN.{length, drop, replicate, getD, length-append, length-drop, length-replicate, drop-of-length-le}
 use lib.Seq.{drop-cons}
 use Rattle.lists.proofs.Tests.{lt-or-le, truth, told}
-use Rattle.columns.specs.declared.read.Read.{Read}
-use Rattle.columns.specs.declared.read.Read.the-variants.{Number, Malformed}
+use Rattle.reading.specs.declared.Read.{Read}
+use Rattle.reading.specs.declared.Read.the-variants.{Number, Malformed}
 use Rattle.columns.specs.Column.{digits}
-use Rattle.columns.specs.Reading.{blanks, valueFrom}
-use Rattle.columns.specs.Steps.{goesOn, scanDigits}
+use Rattle.reading.specs.Reading.{blanks, valueFrom}
+use Rattle.reading.specs.Steps.{goesOn, scanDigits}
 use Rattle.columns.proofs.Digits.{digits-one, digits-more}
 
 -- a text that holds no number holds none
 pub unread {ℓ} : {A : Type ℓ} {n : ℕ} → Malformed ≡ Number n → A

@@ -1,9 +1,9 @@
-// Reading one column, and a row of columns.
+// Numbers in fixed columns of text, right-justified behind blanks, read: one column, and a row of columns.
 ghost use mathlib.Core.Path.{_≡_};
 ghost use Prim.Native.Nat.{_≤_};
 ghost use lib.ListN.{length, drop};
-ghost use Rattle.columns.specs.Reading.{blanks, readColumn, RowRead};
-ghost use Rattle.columns.specs.Steps.{scanDigits};
+ghost use Rattle.reading.specs.Reading.{blanks, readColumn, RowRead};
+ghost use Rattle.reading.specs.Steps.{scanDigits};
 
 // What a text holds.
 pub enum Read {

@@ -1,4 +1,4 @@
--- `columns::read::read_row` meets its contract. The loop's invariant: the numbers read so far stand in the first k places, the later
+-- `reading::read_row` meets its contract. The loop's invariant: the numbers read so far stand in the first k places, the later
 -- places are as they were, and the row is these numbers and then the row of the columns left. Assumes nothing.
 use Prim.Native.Nat.{ℕ, _+_, _-_, _≤_, _<_}
 use mathlib.Core.Bool.{Bool, false}
@@ -8,12 +8,12 @@ use native.Mathlib.Omega.{arith}
 use borrow.Author.Needs.{needs}
 use lib.Dec.{eqb}
 use lib.ListN.{length, take, drop, getD, length-set}
-use Rattle.columns.specs.declared.read.Read.{Read}
-use Rattle.columns.specs.declared.read.Read.the-variants.{Malformed}
-use Rattle.columns.specs.Reading.{sameText, firstColumn, rowOf, RowRead}
-use Rattle.columns.proofs.Rows.{behind, ended, row-bad, row-step, row-end, first-short, first-part, end-other, end-one, rest-stays, row-read, row-unread}
-use Rattle.columns.proofs.read.read_row.Statement.{statement}
-use Rattle.columns.proofs.read.read_row.Tie as tie
+use Rattle.reading.specs.declared.Read.{Read}
+use Rattle.reading.specs.declared.Read.the-variants.{Malformed}
+use Rattle.reading.specs.Reading.{sameText, firstColumn, rowOf, RowRead}
+use Rattle.reading.proofs.Rows.{behind, ended, row-bad, row-step, row-end, first-short, first-part, end-other, end-one, rest-stays, row-read, row-unread}
+use Rattle.reading.proofs.read_row.Statement.{statement}
+use Rattle.reading.proofs.read_row.Tie as tie
 
 abbrev Inv-loop : tie.InvT-loop
 Inv-loop text widths most out₀ at₀ k₀ out at k =

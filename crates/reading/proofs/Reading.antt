@@ -10,14 +10,14 @@ use lib.Dec.{leb}
 use lib.ListN.{length, drop, getD, replicate, length-replicate, drop-of-length-le}
 use lib.Seq.{drop-at, drop-cons}
 use Rattle.lists.proofs.Tests.{and-l, and-r}
-use Rattle.columns.specs.declared.read.Read.{Read}
-use Rattle.columns.specs.declared.read.Read.the-variants.{Number, Malformed}
+use Rattle.reading.specs.declared.Read.{Read}
+use Rattle.reading.specs.declared.Read.the-variants.{Number, Malformed}
 use Rattle.columns.specs.Column.{digits, column, fits}
-use Rattle.columns.specs.Reading.{blanks, valueFrom, isColumn, readColumn}
-use Rattle.columns.specs.Steps.{scanDigits}
+use Rattle.reading.specs.Reading.{blanks, valueFrom, isColumn, readColumn}
+use Rattle.reading.specs.Steps.{scanDigits}
 use Rattle.columns.proofs.Writing.{column-length}
-use Rattle.columns.proofs.Scan.{unread, bare, bare-digits, bare-is, blanks-front, blanks-split}
-use Rattle.columns.proofs.Texts.{same-refl, same-eq, value-column}
+use Rattle.reading.proofs.Scan.{unread, bare, bare-digits, bare-is, blanks-front, blanks-split}
+use Rattle.reading.proofs.Texts.{same-refl, same-eq, value-column}
 
 -- a number that fits its columns is read back from them
 pub read-column : (most w n : ℕ) → fits w n ≡ true → n ≤ most → readColumn most (column w n) ≡ Number n

@@ -1,14 +1,14 @@
--- `columns::read::number_from` meets its contract. The loop's invariant: scanning the rest of the text behind n is scanning the
+-- `reading::number_from` meets its contract. The loop's invariant: scanning the rest of the text behind n is scanning the
 -- whole, and n is at most `most`. Assumes nothing.
 use Prim.Native.Nat.{_-_, _≤_, _<_}
 use mathlib.Core.Path.{_≡_, refl, sym, _∙_}
 use native.Mathlib.Omega.{arith}
 use lib.ListN.{length, drop, getD}
-use Rattle.columns.specs.declared.read.Read.the-variants.{Malformed}
-use Rattle.columns.specs.Steps.{scanDigits}
-use Rattle.columns.proofs.Scan.{Goes, scan-step, scan-stop, scan-end}
-use Rattle.columns.proofs.read.number_from.Statement.{statement}
-use Rattle.columns.proofs.read.number_from.Tie as tie
+use Rattle.reading.specs.declared.Read.the-variants.{Malformed}
+use Rattle.reading.specs.Steps.{scanDigits}
+use Rattle.reading.proofs.Scan.{Goes, scan-step, scan-stop, scan-end}
+use Rattle.reading.proofs.number_from.Statement.{statement}
+use Rattle.reading.proofs.number_from.Tie as tie
 
 abbrev Inv-loop : tie.InvT-loop
 Inv-loop text at most limit n₀ i₀ n i = (i ≤ length text) × (n ≤ most) × (scanDigits most 0 (drop at text) ≡ scanDigits most n (drop i text))

@@ -1,13 +1,13 @@
--- `columns::read::read_column` meets its contract, by the laws of the scan. Assumes nothing.
+-- `reading::read_column` meets its contract, by the laws of the scan. Assumes nothing.
 use Prim.Native.Nat.{_≤_}
 use mathlib.Core.Path.{_∙_}
 use native.Mathlib.Omega.{arith}
 use borrow.Author.Needs.{needs}
 use lib.ListN.{length}
-use Rattle.columns.proofs.Scan.{blanks-le}
-use Rattle.columns.proofs.Reading.{read-none, read-zero, read-zeros, read-digits}
-use Rattle.columns.proofs.read.read_column.Statement.{statement}
-use Rattle.columns.proofs.read.read_column.Tie as tie
+use Rattle.reading.proofs.Scan.{blanks-le}
+use Rattle.reading.proofs.Reading.{read-none, read-zero, read-zeros, read-digits}
+use Rattle.reading.proofs.read_column.Statement.{statement}
+use Rattle.reading.proofs.read_column.Tie as tie
 
 blanks-of-requires : tie.Need-blanks-of-requires
 blanks-of-requires c κs = search needs

@@ -11,15 +11,15 @@ use lib.Dec.{eqb, leb}
 use lib.ListN.{length, take, drop, set, getD, length-append, length-drop, take-append-drop, drop-of-length-le}
 use lib.Seq.{take-at, drop-at, drop-cons, drop-drop, drop-set-lt, take-suc-set, length-take-le}
 use Rattle.lists.proofs.Tests.{truth, and-l, and-r, and-i}
-use Rattle.columns.specs.declared.read.Read.{Read}
-use Rattle.columns.specs.declared.read.Read.the-variants.{Number, Malformed}
+use Rattle.reading.specs.declared.Read.{Read}
+use Rattle.reading.specs.declared.Read.the-variants.{Number, Malformed}
 use Rattle.columns.specs.Column.{column, fits}
 use Rattle.columns.specs.Line.{line, allFit}
-use Rattle.columns.specs.Reading.{sameText, readColumn, firstColumn, Row, withColumn, rowOf, over, RowRead}
-use Rattle.columns.proofs.Scan.{unread}
-use Rattle.columns.proofs.Texts.{same-eq}
+use Rattle.reading.specs.Reading.{sameText, readColumn, firstColumn, Row, withColumn, rowOf, over, RowRead}
+use Rattle.reading.proofs.Scan.{unread}
+use Rattle.reading.proofs.Texts.{same-eq}
 use Rattle.columns.proofs.Writing.{column-length}
-use Rattle.columns.proofs.Reading.{read-column, column-read, read-most}
+use Rattle.reading.proofs.Reading.{read-column, column-read, read-most}
 
 -- no number is above `most`
 unfoldable pub atMost : ℕ → List ℕ → Bool

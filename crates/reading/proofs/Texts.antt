@@ -7,9 +7,9 @@ use borrow.Author.Tests.{eq-eqb, eqb-true}
 use lib.Dec.{eqb}
 use lib.ListN.{length, replicate}
 use Rattle.lists.proofs.Tests.{and-l, and-r}
 use Rattle.columns.specs.Column.{digits, column}
-use Rattle.columns.specs.Reading.{sameText, valueFrom}
-use Rattle.columns.proofs.Scan.{value-digits}
+use Rattle.reading.specs.Reading.{sameText, valueFrom}
+use Rattle.reading.proofs.Scan.{value-digits}
 
 -- `sameText` is equality
 pub same-refl : (s : List ℕ) → sameText s s ≡ true

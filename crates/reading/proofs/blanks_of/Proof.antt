@@ -1,12 +1,12 @@
--- `columns::read::blanks_of` meets its contract. The loop's invariant: each byte passed is one blank of the text. Assumes nothing.
+-- `reading::blanks_of` meets its contract. The loop's invariant: each byte passed is one blank of the text. Assumes nothing.
 use Prim.Native.Nat.{_+_, _-_, _≤_}
 use mathlib.Core.Path.{_≡_}
 use native.Mathlib.Omega.{arith}
 use lib.ListN.{length, drop}
-use Rattle.columns.specs.Reading.{blanks}
-use Rattle.columns.proofs.Scan.{blanks-step, blanks-stop, blanks-end}
-use Rattle.columns.proofs.read.blanks_of.Statement.{statement}
-use Rattle.columns.proofs.read.blanks_of.Tie as tie
+use Rattle.reading.specs.Reading.{blanks}
+use Rattle.reading.proofs.Scan.{blanks-step, blanks-stop, blanks-end}
+use Rattle.reading.proofs.blanks_of.Statement.{statement}
+use Rattle.reading.proofs.blanks_of.Tie as tie
 
 abbrev Inv-loop : tie.InvT-loop
 Inv-loop text i₀ i = (i ≤ length text) × (blanks text ≡ i + blanks (drop i text))
