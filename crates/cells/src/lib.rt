@@ -4,9 +4,9 @@ ghost use mathlib.Core.Bool.{true};
 ghost use lib.ListN.{length, replicate};
 ghost use Rattle.cells.specs.Cells as Cells;
 ghost use Rattle.cells.specs.declared.Cell.the-variants as Cell;
-use reading::blanks_of;
 use columns::fill_column;
 use columns::is_fitting;
+use reading::blanks_of;
 
 // What stands in a cell.
 pub enum Cell {
