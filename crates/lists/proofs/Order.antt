@@ -17,7 +17,7 @@ use Rattle.lists.proofs.Distinct.{Free, changed-number}
 
 module _ {A : Type 0} (number : A → ℕ) where
   -- every element has a number above n
-  abbrev Above : ℕ → List A → Type 0
+  abbrev pub Above : ℕ → List A → Type 0
   Above n xs = (y : A) → Member y xs → n < number y
 
   -- ---- what ascending numbers tell: no two are the same

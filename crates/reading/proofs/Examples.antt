@@ -8,7 +8,7 @@ use Rattle.columns.proofs.Examples.{e1, e1-bytes}
 use Rattle.reading.specs.declared.Read.the-variants.{Number, Malformed}
 use Rattle.reading.specs.Reading.{sameText, valueFrom, isColumn, readColumn, firstColumn, rowOf}
 
--- E1
+-- the line of E1
 pub e1-read : rowOf 65535 (replicate 9 6) e1-bytes ≡ record { numbers = e1; whole = true }
 unfolding digitsIn digits column sameText valueFrom isColumn readColumn firstColumn rowOf e1-bytes bytes
 e1-read = refl

@@ -1,12 +1,13 @@
 -- What contracts equate is equal by 01 and 02 too: equal boards are `Same`, `Same` is an equality, and on boards in order it is 01's equality as
 -- sets. Assumes nothing.
-use Prim.Native.Nat.{ℕ, _≤_, _<_}
+use Prim.Native.Nat.{ℕ, _≤_}
 use native.Mathlib.Omega.{arith}
 use mathlib.Core.Path.{_≡_, refl, sym, ap, ap₂, subst, _∙_}
 use mathlib.Core.Logic.{⊎-elim}
 use mathlib.Core.List.{List, [], _∷_, List·Memᴰ·head, List·Memᴰ·tail, List·Memᴰ·cases-cons}
 use Rattle.lists.specs.Order.{Ascending}
 use Rattle.lists.proofs.Search.{Member}
+use Rattle.lists.proofs.Order.{Above}
 use Rattle.rules.specs.declared.Authority.{Authority}
 use Rattle.rules.specs.declared.Kind.{Kind}
 use Rattle.rules.specs.declared.Kind.the-variants.{Lpa, Toa, Twa}
@@ -140,15 +141,15 @@ same-sets b c s = record {
 
 module _ {A : Type 0} (number : A → ℕ) (Like : A → A → Type 0) (like-number : (x y : A) → Like x y → number x ≡ number y) where
   -- the first number of an ascending list is the least
-  least-first : (x y : A) (xs : List A) → ((z : A) → Member z xs → number x < number z) → Member y (x ∷ xs) → number x ≤ number y
+  least-first : (x y : A) (xs : List A) → Above number (number x) xs → Member y (x ∷ xs) → number x ≤ number y
   least-first x y xs h m = ⊎-elim (λ e. omega (arith, ap number e)) (λ k. omega (arith, h y k)) (List·Memᴰ·cases-cons m)
 
   -- an element with the first number is the first
-  first-is : (x y : A) (xs : List A) → ((z : A) → Member z xs → number x < number z) → Member y (x ∷ xs) → number y ≡ number x → y ≡ x
+  first-is : (x y : A) (xs : List A) → Above number (number x) xs → Member y (x ∷ xs) → number y ≡ number x → y ≡ x
   first-is x y xs h m e = ⊎-elim (λ q. q) (λ k. absurd (omega (arith, h y k))) (List·Memᴰ·cases-cons m)
 
   -- without the first of each, where both have the same number
-  tails : (x y : A) (xs ys : List A) → number x ≡ number y → ((z : A) → Member z xs → number x < number z) → EachIn Like (x ∷ xs) (y ∷ ys) → EachIn Like xs ys
+  tails : (x y : A) (xs ys : List A) → number x ≡ number y → Above number (number x) xs → EachIn Like (x ∷ xs) (y ∷ ys) → EachIn Like xs ys
   tails x y xs ys e h f z m =
       let (w, mw, l) = f z (List·Memᴰ·tail m) in
       ⊎-elim (λ q. absurd (omega (arith, h z m, like-number z w l, ap number q, e))) (λ k. (w, k, l)) (List·Memᴰ·cases-cons mw)

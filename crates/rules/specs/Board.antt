@@ -275,8 +275,8 @@ InOrder Like [] (y ∷ ys) = ⊥
 InOrder Like (x ∷ xs) [] = ⊥
 InOrder Like (x ∷ xs) (y ∷ ys) = Like x y × InOrder Like xs ys
 
--- "Two registers are equal when plan, last stamp, last number, blocks, live authorities and trains are equal"; 02, order 5: "The comparison with
--- document 01's register includes that order from now on."
+-- "Two registers are equal when plan, last stamp, last number, blocks, live authorities and trains are equal as sets"; 02, order 5: "The comparison
+-- with document 01's register includes that order from now on.", so place for place
 pub record Same (b c : Board) : Type 0 where
   pub portions : b .portions ≡ c .portions
   pub gates : b .gates ≡ c .gates
