@@ -36,7 +36,7 @@ fn decide_agree(x: Authority, y: Authority, toa: AuthorityNo, officer: u16) -> u
 
 pub fn answer_agree(
     head: Head,
-    gates: &[u16; 192],
+    gates: &[u16; 320],
     authorities: &[u64; 256],
     trains: &[u16; 128],
     toa: AuthorityNo,
@@ -85,7 +85,7 @@ fn decide_join(x: Authority, y: Authority, twa: AuthorityNo, officer: u16, dista
 
 pub fn answer_join(
     head: Head,
-    gates: &[u16; 192],
+    gates: &[u16; 320],
     authorities: &[u64; 256],
     trains: &[u16; 128],
     twa: AuthorityNo,

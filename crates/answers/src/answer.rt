@@ -13,6 +13,9 @@ use crate::terms::answer_term;
 use agreements::answer_agree;
 use agreements::answer_join;
 use authorities::Found;
+use bookings::answer_book_in;
+use bookings::answer_book_out;
+use bookings::can_be_blocked;
 use conditions::is_full;
 use conditions::is_still_needed;
 use movements::answer_move;
@@ -30,7 +33,7 @@ use rules::refusal::STILL_NEEDED;
 
 fn answer_request(
     head: Head,
-    gates: &[u16; 192],
+    gates: &[u16; 320],
     authorities: &[u64; 256],
     trains: &[u16; 128],
 ) -> u16
@@ -46,7 +49,7 @@ fn answer_request(
 
 fn answer_withdraw(
     head: Head,
-    gates: &[u16; 192],
+    gates: &[u16; 320],
     authorities: &[u64; 256],
     trains: &[u16; 128],
     n: AuthorityNo,
@@ -63,7 +66,7 @@ fn answer_withdraw(
 
 fn answer_block(
     head: Head,
-    gates: &[u16; 192],
+    gates: &[u16; 320],
     authorities: &[u64; 256],
     trains: &[u16; 128],
     g: GateNo,
@@ -74,8 +77,7 @@ fn answer_block(
     if portions::has(head.blocks, g.0) {
         return ALREADY_SO;
     }
-    let gate = gates::gate_at(gates, head.gate_count, g);
-    if gate.kind == 4 {
+    if !can_be_blocked(head, gates, authorities, trains, g) {
         return NO_FACILITY;
     }
     0
@@ -83,7 +85,7 @@ fn answer_block(
 
 fn answer_unblock(
     head: Head,
-    gates: &[u16; 192],
+    gates: &[u16; 320],
     authorities: &[u64; 256],
     trains: &[u16; 128],
     g: GateNo,
@@ -102,7 +104,7 @@ fn answer_unblock(
 
 fn answer_grant(
     head: Head,
-    gates: &[u16; 192],
+    gates: &[u16; 320],
     authorities: &[u64; 256],
     trains: &[u16; 128],
     s: Seven,
@@ -120,7 +122,7 @@ fn answer_grant(
 
 fn answer_clear(
     head: Head,
-    gates: &[u16; 192],
+    gates: &[u16; 320],
     authorities: &[u64; 256],
     trains: &[u16; 128],
     n: AuthorityNo,
@@ -137,7 +139,7 @@ fn answer_clear(
 
 fn answer_reoccupy(
     head: Head,
-    gates: &[u16; 192],
+    gates: &[u16; 320],
     authorities: &[u64; 256],
     trains: &[u16; 128],
     n: AuthorityNo,
@@ -154,7 +156,7 @@ fn answer_reoccupy(
 
 fn answer_hand_over(
     head: Head,
-    gates: &[u16; 192],
+    gates: &[u16; 320],
     authorities: &[u64; 256],
     trains: &[u16; 128],
     n: AuthorityNo,
@@ -172,7 +174,7 @@ fn answer_hand_over(
 
 fn answer_fulfil(
     head: Head,
-    gates: &[u16; 192],
+    gates: &[u16; 320],
     authorities: &[u64; 256],
     trains: &[u16; 128],
     n: AuthorityNo,
@@ -190,7 +192,7 @@ fn answer_fulfil(
 
 fn answer_continue(
     head: Head,
-    gates: &[u16; 192],
+    gates: &[u16; 320],
     authorities: &[u64; 256],
     trains: &[u16; 128],
     s: Seven,
@@ -225,7 +227,7 @@ fn answer_continue(
 // The lowest of the call's own refusals, from 5 on, whose condition holds, or 0. `s` has the call's stamp.
 pub fn answer_of(
     head: Head,
-    gates: &[u16; 192],
+    gates: &[u16; 320],
     authorities: &[u64; 256],
     trains: &[u16; 128],
     s: Seven,
@@ -358,5 +360,12 @@ pub fn answer_of(
             officer,
             distance,
         ),
+        Call::BookOut { gate, paper: _ } => answer_book_out(head, gates, authorities, trains, gate),
+        Call::BookIn {
+            gate,
+            paper,
+            certified,
+            new: _,
+        } => answer_book_in(head, gates, authorities, trains, gate, paper, certified),
     }
 }

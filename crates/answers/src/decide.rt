@@ -41,7 +41,7 @@ pub fn decide_withdraw(a: Authority, officer: u16) -> u16
 // 6, 7, 11, 12, 13 and 22 of GRANT, with the authority found.
 pub fn decide_grant(
     head: Head,
-    gates: &[u16; 192],
+    gates: &[u16; 320],
     authorities: &[u64; 256],
     trains: &[u16; 128],
     s: Seven,
@@ -91,7 +91,7 @@ pub fn decide_clear(a: Authority, officer: u16) -> u16
 // 6, 7, 8 and 12 of REOCCUPY, with the authority found.
 pub fn decide_reoccupy(
     head: Head,
-    gates: &[u16; 192],
+    gates: &[u16; 320],
     authorities: &[u64; 256],
     trains: &[u16; 128],
     a: Authority,
@@ -151,7 +151,7 @@ pub fn decide_fulfil(a: Authority, officer: u16, assurances: u16) -> u16
 // 6, 7, 11, 12, 13 and 22 of CONTINUE, with the two found.
 pub fn decide_continue(
     head: Head,
-    gates: &[u16; 192],
+    gates: &[u16; 320],
     authorities: &[u64; 256],
     trains: &[u16; 128],
     s: Seven,

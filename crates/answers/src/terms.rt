@@ -36,7 +36,7 @@ fn decide_term(s: Seven, a: Authority, start: u32) -> u16
 
 pub fn answer_term(
     head: Head,
-    gates: &[u16; 192],
+    gates: &[u16; 320],
     authorities: &[u64; 256],
     trains: &[u16; 128],
     s: Seven,

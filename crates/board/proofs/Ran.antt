@@ -3,7 +3,7 @@
 -- theorems about every `Ran`. Assumes nothing.
 use Prim.Native.Nat.{ℕ, _≤_, _<_}
 use mathlib.Core.Path.{_≡_, refl, sym, ap, ap₂, subst, _∙_}
-use mathlib.Core.Bool.{false}
+use mathlib.Core.Bool.{true, false}
 use mathlib.Core.List.{List, [], _∷_, _++_}
 use lib.ListN.{length, drop}
 use contract.Lifetimes.{Lfts}
@@ -15,12 +15,17 @@ use Rattle.lists.specs.Distinct.{Distinct}
 use Rattle.lists.specs.Order.{Ascending}
 use Rattle.lists.proofs.Tests.{or-no}
 use Rattle.lists.proofs.Search.{Member}
+use Rattle.portions.specs.Sets.{has}
+use Rattle.rules.specs.declared.GateNo.{GateNo}
+use Rattle.rules.specs.declared.PaperNo.{PaperNo}
 use Rattle.rules.specs.declared.Authority.{Authority}
 use Rattle.rules.specs.declared.Seven.{Seven}
+use Rattle.rules.specs.declared.Call.the-variants.{BookIn}
 use Rattle.rules.specs.declared.Opened.{Opened}
 use Rattle.rules.specs.declared.Called.{Called}
 use Rattle.rules.specs.declared.Register.{Register}
-use Rattle.rules.specs.Board.{Board, boardOf, authorityNo, trainNo, Same}
+use Rattle.rules.specs.Board.{Board, boardOf, canBeBlocked, authorityNo, trainNo, Same}
+use Rattle.rules.specs.Call.{named}
 use Rattle.rules.specs.Plan.{openBoard}
 use Rattle.rules.specs.Refusals.{conditions, answer}
 use Rattle.rules.specs.Journal.{journalLine}
@@ -32,6 +37,7 @@ use Rattle.rules.proofs.Once.{held-once}
 use Rattle.rules.proofs.Equality.{equal-same}
 use Rattle.rules.proofs.Safety.{demand-3}
 use Rattle.rules.proofs.Terms.{ended-by, StaysIn, term-stays}
+use Rattle.rules.proofs.Bookings.{Booked, NeededBy, list-booked, limits-protected, needed-not-restored}
 use Rattle.rules.proofs.Traces.{trace-snoc, final-snoc}
 use Rattle.board.proofs.entry.open.Kinds as open-kinds
 use Rattle.board.proofs.entry.open.Reads as open-reads
@@ -98,6 +104,27 @@ pub ran-safe : {text : List ℕ} {ms : List Made} {cs : List Answered} {r : Regi
 ran-safe {text} {ms} h =
     subst (λ (l : List Answered). Safe (openBoard text .gates) (reckoned (openBoard text .gates) start l)) (sym (ran-trace h)) (demand-3 text ms)
 
+-- ---- order 6, bookings
+
+-- THEOREM: each gate of every register that `open` or `call` returned has a place for its booking, only plain automatic signals are out, and each gate
+-- whose block is on can be blocked
+pub ran-booked : {text : List ℕ} {ms : List Made} {cs : List Answered} {r : Register} → Ran text ms cs r → Booked (boardOf r)
+ran-booked {text} {ms} h = subst Booked (sym (ran-board h)) (list-booked text ms)
+
+-- a gate that an authority in force needs, by what is reckoned from the run's calls and answers
+abbrev pub Needed : List ℕ → List Answered → ℕ → ℕ → Type 0
+Needed text cs n g = NeededBy (openBoard text .gates) (reckoned (openBoard text .gates) start cs .authority) n g
+
+needed-trace : {text : List ℕ} {ms : List Made} {cs : List Answered} {r : Register} {n g : ℕ} → Ran text ms cs r → Needed text cs n g
+    → Needed text (trace (openBoard text) ms) n g
+needed-trace {text} {n = n} {g = g} h k = subst (λ (l : List Answered). Needed text l n g) (ran-trace h) k
+
+-- THEOREM: "Limits in force stay protected through both calls.": after every list of calls such a gate is blocked, and can be blocked
+pub ran-protected : {text : List ℕ} {ms : List Made} {cs : List Answered} {r : Register} → Ran text ms cs r → (n g : ℕ) → Needed text cs n g
+    → (has g (boardOf r .blocks) ≡ true) × (canBeBlocked (boardOf r) g ≡ true)
+ran-protected {text} {ms} h n g k =
+    subst (λ (b : Board). (has g (b .blocks) ≡ true) × (canBeBlocked b g ≡ true)) (sym (ran-board h)) (limits-protected text ms n g (needed-trace h k))
+
 -- ---- demands 1 and 2, of every step of `call`: its arguments `a`, what it returned, and the buffer at its return
 
 module _ (κs : Lfts 1) (a : Dens κs call-kinds.ps) (out : Called) (x : AtExit (endedOf 1 call-kinds.ps call-kinds.r) κs) (p : call-reads.Post κs a out x) where
@@ -137,6 +164,12 @@ module _ (κs : Lfts 1) (a : Dens κs call-kinds.ps) (out : Called) (x : AtExit 
 
   pub long-written : 55 ≤ room → buffer′ ≡ journalLine s (out .answer) (out .number) ++ drop 55 buffer
   long-written h = p .line ∙ long-line s (out .answer) (out .number) buffer h
+
+  -- order 6: a needed gate that is blocked can't be restored: no BOOK IN that would restore it is accepted
+  pub not-restored : {text : List ℕ} {ms : List Made} {cs : List Answered} → Ran text ms cs (a .0) → (n : ℕ) (g : GateNo) → Needed text cs n (g .0)
+      → (paper new : PaperNo) → named s ≡ BookIn g paper true new → out .answer ≡ 0 → ⊥
+  not-restored {text} {ms} h n g k paper new is e =
+      needed-not-restored text ms n g (needed-trace h k) s room paper new is (subst (λ (b : Board). answer b s room ≡ 0) (ran-board h) (sym (p .answered) ∙ e))
 
   -- order 1: an authority that the call did not end is held after it, in force if it was, with the term that it had
   pub term-kept : Kept (a .0) → (o : Authority) → Member o (b .authorities) → ended-by (authorityNo o) (answered s (out .answer)) ≡ false

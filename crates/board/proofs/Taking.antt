@@ -10,7 +10,7 @@ use lib.Dec.{eqb}
 use borrow.Author.Tests.{eq-eqb, ne-eqb, le-ltb}
 use Rattle.rules.specs.declared.Seven.{Seven}
 use Rattle.rules.specs.declared.Call.{Call}
-use Rattle.rules.specs.declared.Call.the-variants.{NoSuchCall, BadField, Request, Withdraw, Agree, Block, Unblock, Grant, Clear, Reoccupy, HandOver, Fulfil, Continue, Move, Passed, Term, Join}
+use Rattle.rules.specs.declared.Call.the-variants.{NoSuchCall, BadField, Request, Withdraw, Agree, Block, Unblock, Grant, Clear, Reoccupy, HandOver, Fulfil, Continue, Move, Passed, Term, Join, BookOut, BookIn}
 use Rattle.rules.specs.declared.Called.{Called}
 use Rattle.rules.specs.declared.Register.{Register}
 use Rattle.rules.specs.Board.{Board, boardOf, withStamp}
@@ -53,6 +53,8 @@ no-fault b (Move t g n officer) k = refl
 no-fault b (Passed t) k = refl
 no-fault b (Term n day time length) k = refl
 no-fault b (Join twa toa officer distance) k = refl
+no-fault b (BookOut g paper) k = refl
+no-fault b (BookIn g paper certified new) k = refl
 
 -- the call that the seven numbers are, with its fault and its answer where the buffer is long enough
 pub data Decoded (b : Board) (s : Seven) (c : Call) : Type 0 where
@@ -122,6 +124,7 @@ stamped day time r = record {
   portions = r .portions;
   «gate_count» = r .«gate_count»;
   gates = r .gates;
+  bookings = r .bookings;
   day = day;
   time = time;
   last = r .last;

@@ -1,7 +1,7 @@
 -- The refusals of a decoded call that come before those of a call's own. Assumes nothing.
 use Prim.Native.Nat.{ℕ}
 use Rattle.rules.specs.declared.Call.{Call}
-use Rattle.rules.specs.declared.Call.the-variants.{NoSuchCall, BadField, Request, Withdraw, Agree, Block, Unblock, Grant, Clear, Reoccupy, HandOver, Fulfil, Continue, Move, Passed, Term, Join}
+use Rattle.rules.specs.declared.Call.the-variants.{NoSuchCall, BadField, Request, Withdraw, Agree, Block, Unblock, Grant, Clear, Reoccupy, HandOver, Fulfil, Continue, Move, Passed, Term, Join, BookOut, BookIn}
 
 -- 2 or 3 where the seven numbers are no call
 unfoldable pub faultOf : Call → ℕ
@@ -22,3 +22,5 @@ faultOf (Move t g n officer) = 0
 faultOf (Passed t) = 0
 faultOf (Term n day time length) = 0
 faultOf (Join twa toa officer distance) = 0
+faultOf (BookOut g paper) = 0
+faultOf (BookIn g paper certified new) = 0

@@ -5,7 +5,7 @@ use lib.ListN.{replicate}
 use Rattle.rules.specs.declared.Gate.{Gate}
 use Rattle.rules.specs.declared.Seven.{Seven}
 use Rattle.rules.specs.declared.Register.{Register}
-use Rattle.rules.specs.Board.{Board, noAuthority, noTrain}
+use Rattle.rules.specs.Board.{Board, noBooking, noAuthority, noTrain}
 use Rattle.rules.specs.Refusals.{answer}
 
 -- the register of a freshly opened board
@@ -14,6 +14,7 @@ freshWith portions count gates = record {
   portions = portions;
   «gate_count» = count;
   gates = gates;
+  bookings = replicate 64 noBooking;
   day = 0;
   time = 0;
   last = 0;

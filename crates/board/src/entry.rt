@@ -16,11 +16,13 @@ use effects::effect_of;
 use places::Head;
 use rules::Authority;
 use rules::AuthorityNo;
+use rules::Booking;
 use rules::Call;
 use rules::Called;
 use rules::Gate;
 use rules::Kind;
 use rules::Opened;
+use rules::PaperNo;
 use rules::Register;
 use rules::Seven;
 use rules::Train;
@@ -35,6 +37,10 @@ use rules::refusal::SHORT_LINE;
 fn fresh(portions: u16, gate_count: usize, gates: [Gate; 64]) -> Register
     ensures { λ r. ⌜ r ≡ freshWith portions «gate_count» gates ⌝ }
 {
+    let no_booking = Booking {
+        paper: PaperNo(0),
+        replaced: PaperNo(0),
+    };
     let none = AuthorityNo(0);
     let no_authority = Authority {
         number: none,
@@ -57,6 +63,7 @@ fn fresh(portions: u16, gate_count: usize, gates: [Gate; 64]) -> Register
         portions,
         gate_count,
         gates,
+        bookings: [no_booking; 64],
         day: 0,
         time: 0,
         last: 0,
@@ -101,7 +108,7 @@ fn fault_of(c: Call) -> u16
 // 4: the stamp is before that of the last accepted call.
 fn is_early(
     head: Head,
-    gates: &[u16; 192],
+    gates: &[u16; 320],
     authorities: &[u64; 256],
     trains: &[u16; 128],
     s: Seven,
@@ -114,7 +121,7 @@ fn is_early(
 // The answer to a call that has room for its line.
 fn answer(
     head: Head,
-    gates: &[u16; 192],
+    gates: &[u16; 320],
     authorities: &[u64; 256],
     trains: &[u16; 128],
     s: Seven,
@@ -143,13 +150,13 @@ pub struct Taken {
 // A call that has room for its line, on a register's head and arrays.
 pub fn take(
     head: Head,
-    gates: &[u16; 192],
+    gates: &mut [u16; 320],
     authorities: &mut [u64; 256],
     trains: &mut [u16; 128],
     s: Seven,
 ) -> Taken
     requires { ⌜ Kept (registerIn head (now gates) (now authorities) (now trains)) ⌝ }
-    ensures { λ out. ⌜ TakePost (registerIn head (now (gates .entry)) (now (authorities .entry)) (now (trains .entry))) s (registerIn (out .head) (now (gates .entry)) (now (authorities .exit)) (now (trains .exit))) (out .answer) (out .number) ⌝ }
+    ensures { λ out. ⌜ TakePost (registerIn head (now (gates .entry)) (now (authorities .entry)) (now (trains .entry))) s (registerIn (out .head) (now (gates .exit)) (now (authorities .exit)) (now (trains .exit))) (out .answer) (out .number) ⌝ }
 {
     let c = decode::decode(head.portions, head.gate_count, s);
     let refusal = answer(head, gates, authorities, trains, s, c);
@@ -207,7 +214,7 @@ fn take_whole(register: Register, seven: Seven) -> Called
     requires { ⌜ Kept register ⌝ }
     ensures { λ out. ⌜ TakePost register seven (out .register) (out .answer) (out .number) ⌝ }
 {
-    let mut gates = [0u16; 192];
+    let mut gates = [0u16; 320];
     let mut authorities = [0u64; 256];
     let mut trains = [0u16; 128];
     registers::write_gates(register, &mut gates);
@@ -215,7 +222,7 @@ fn take_whole(register: Register, seven: Seven) -> Called
     registers::write_trains(register, &mut trains);
     let taken = take(
         places::head_of(register),
-        &gates,
+        &mut gates,
         &mut authorities,
         &mut trains,
         seven,

@@ -22,14 +22,14 @@ struct RanHead {
 // The run on a register's head and arrays.
 fn run_lines(
     head: Head,
-    gates: &[u16; 192],
+    gates: &mut [u16; 320],
     authorities: &mut [u64; 256],
     trains: &mut [u16; 128],
     text: &[u8],
     out: &mut [u8],
 ) -> RanHead
     requires { ⌜ Kept (registerIn head (now gates) (now authorities) (now trains)) ⌝ }
-    ensures { λ r. ⌜ RunPost (registerIn head (now (gates .entry)) (now (authorities .entry)) (now (trains .entry))) (now (text .entry)) (now (out .entry)) (registerIn (r .head) (now (gates .entry)) (now (authorities .exit)) (now (trains .exit))) (r .lines) (now (out .exit)) ⌝ }
+    ensures { λ r. ⌜ RunPost (registerIn head (now (gates .entry)) (now (authorities .entry)) (now (trains .entry))) (now (text .entry)) (now (out .entry)) (registerIn (r .head) (now (gates .exit)) (now (authorities .exit)) (now (trains .exit))) (r .lines) (now (out .exit)) ⌝ }
 {
     let most = out.len() / 55;
     let mut held = head;
@@ -63,7 +63,7 @@ pub fn run(register: Register, text: &[u8], out: &mut [u8]) -> Ran
     requires { ⌜ Kept register ⌝ }
     ensures { λ r. ⌜ RunPost register (now (text .entry)) (now (out .entry)) (r .register) (r .lines) (now (out .exit)) ⌝ }
 {
-    let mut gates = [0u16; 192];
+    let mut gates = [0u16; 320];
     let mut authorities = [0u64; 256];
     let mut trains = [0u16; 128];
     registers::write_gates(register, &mut gates);
@@ -71,7 +71,7 @@ pub fn run(register: Register, text: &[u8], out: &mut [u8]) -> Ran
     registers::write_trains(register, &mut trains);
     let ran = run_lines(
         places::head_of(register),
-        &gates,
+        &mut gates,
         &mut authorities,
         &mut trains,
         text,

@@ -1,14 +1,17 @@
--- What an effect leaves: the board, and the counts within their arrays, after a change of the authorities, the trains or the blocks. Assumes nothing.
+-- What an effect leaves: the board, and the counts within their arrays, after a change of the authorities, the trains, the blocks or the
+-- bookings. Assumes nothing.
 use Prim.Native.Nat.{ℕ, _≤_}
 use mathlib.Core.Path.{_≡_, refl, sym}
 use mathlib.Core.List.{List}
 use Rattle.lists.specs.Prefix.{prefix}
 use Rattle.lists.specs.Places.{Holds}
+use Rattle.rules.specs.declared.Gate.{Gate}
+use Rattle.rules.specs.declared.Booking.{Booking}
 use Rattle.rules.specs.declared.Authority.{Authority}
 use Rattle.rules.specs.declared.Train.{Train}
 use Rattle.rules.specs.declared.Call.{Call}
 use Rattle.rules.specs.declared.Register.{Register}
-use Rattle.rules.specs.Board.{boardOf, withAuthorities, withTrains, withBlocks, withLast}
+use Rattle.rules.specs.Board.{boardOf, withAuthorities, withTrains, withBlocks, withBookings, withLast}
 use Rattle.rules.specs.Effects.{effect}
 use Rattle.places.specs.Places.{headOf, HeadBounds}
 use Rattle.changes.specs.Effects.{EffectPost}
@@ -21,6 +24,7 @@ registerWith last blocks live authorities running trains r = record {
   portions = r .portions;
   «gate_count» = r .«gate_count»;
   gates = r .gates;
+  bookings = r .bookings;
   day = r .day;
   time = r .time;
   last = last;
@@ -29,6 +33,23 @@ registerWith last blocks live authorities running trains r = record {
   authorities = authorities;
   running = running;
   trains = trains;
+}
+
+-- the register with other bookings; the gates stand in the same array
+abbrev bookedWith : List Gate → List Booking → Register → Register
+bookedWith gates bookings r = record {
+  portions = r .portions;
+  «gate_count» = r .«gate_count»;
+  gates = gates;
+  bookings = bookings;
+  day = r .day;
+  time = r .time;
+  last = r .last;
+  blocks = r .blocks;
+  live = r .live;
+  authorities = r .authorities;
+  running = r .running;
+  trains = r .trains;
 }
 
 -- the authorities or the trains as they were
@@ -65,3 +86,13 @@ module _ {r : Register} {c : Call} (k : HeadBounds (headOf r)) where
       → EffectPost r c (registerWith (r .last) blocks (r .live) (r .authorities) (r .running) (r .trains) r)
   unfolding boardOf
   blocks-effect e = changed-effect (still (k .live)) (still (k .running)) e
+
+  -- the bookings
+  pub booked-effect : {gates : List Gate} {bookings xs : List Booking} → (gates ≡ r .gates) × (prefix (r .«gate_count») bookings ≡ xs)
+      → effect (boardOf r) c ≡ withBookings xs (boardOf r)
+      → EffectPost r c (bookedWith gates bookings r)
+  unfolding boardOf
+  booked-effect x e = record {
+    board = rw (x .0, x .1) (sym e);
+    bounds = record { portions = k .portions; gates = k .gates; live = k .live; running = k .running };
+  }

@@ -1,19 +1,24 @@
-// What the accepted calls do that change authorities or blocks alone and no train, in the register's arrays; the head that each leaves is handed back.
+// What the accepted calls do that change authorities, blocks or bookings and no train, in the register's arrays; the head that each leaves is handed
+// back.
+ghost use mathlib.Core.Path.{_≡_};
 ghost use Prim.Native.Nat.{_<_};
 ghost use Rattle.rules.specs.declared.Call.the-variants as Call;
+ghost use Rattle.rules.specs.Effects.{bookedIn};
 ghost use Rattle.places.specs.Places.{HeadBounds, registerIn};
 ghost use Rattle.changes.specs.Effects.{EffectPost};
-use authorities::Change;
+use amendments::Change;
 use places::Head;
 use rules::Authority;
 use rules::AuthorityNo;
+use rules::Booking;
 use rules::GateNo;
 use rules::Kind;
+use rules::PaperNo;
 use stamps::minute_of;
 
 pub fn request(
     head: Head,
-    gates: &[u16; 192],
+    gates: &[u16; 320],
     authorities: &mut [u64; 256],
     trains: &mut [u16; 128],
     kind: Kind,
@@ -36,7 +41,7 @@ pub fn request(
         start: 0,
         length: 0,
     };
-    authorities::add_authority(authorities, head.live, a);
+    amendments::add_authority(authorities, head.live, a);
     let mut out = head;
     out.live = head.live + 1;
     out.last = number;
@@ -45,7 +50,7 @@ pub fn request(
 
 pub fn withdraw(
     head: Head,
-    gates: &[u16; 192],
+    gates: &[u16; 320],
     authorities: &mut [u64; 256],
     trains: &mut [u16; 128],
     n: AuthorityNo,
@@ -55,13 +60,13 @@ pub fn withdraw(
     ensures { λ out. ⌜ EffectPost (registerIn head (now (gates .entry)) (now (authorities .entry)) (now (trains .entry))) (Call.Withdraw n officer) (registerIn out (now (gates .entry)) (now (authorities .exit)) (now (trains .exit))) ⌝ }
 {
     let mut out = head;
-    out.live = authorities::end_authority(authorities, head.live, n);
+    out.live = amendments::end_authority(authorities, head.live, n);
     out
 }
 
 pub fn agree(
     head: Head,
-    gates: &[u16; 192],
+    gates: &[u16; 320],
     authorities: &mut [u64; 256],
     trains: &mut [u16; 128],
     toa: AuthorityNo,
@@ -71,13 +76,13 @@ pub fn agree(
     requires { ⌜ HeadBounds head ⌝ }
     ensures { λ out. ⌜ EffectPost (registerIn head (now (gates .entry)) (now (authorities .entry)) (now (trains .entry))) (Call.Agree toa twa officer) (registerIn out (now (gates .entry)) (now (authorities .exit)) (now (trains .exit))) ⌝ }
 {
-    authorities::amend(authorities, head.live, twa, Change::Agreed(toa));
+    amendments::amend(authorities, head.live, twa, Change::Agreed(toa));
     head
 }
 
 pub fn block(
     head: Head,
-    gates: &[u16; 192],
+    gates: &[u16; 320],
     authorities: &mut [u64; 256],
     trains: &mut [u16; 128],
     g: GateNo,
@@ -92,7 +97,7 @@ pub fn block(
 
 pub fn unblock(
     head: Head,
-    gates: &[u16; 192],
+    gates: &[u16; 320],
     authorities: &mut [u64; 256],
     trains: &mut [u16; 128],
     g: GateNo,
@@ -107,7 +112,7 @@ pub fn unblock(
 
 pub fn grant(
     head: Head,
-    gates: &[u16; 192],
+    gates: &[u16; 320],
     authorities: &mut [u64; 256],
     trains: &mut [u16; 128],
     n: AuthorityNo,
@@ -116,13 +121,13 @@ pub fn grant(
     requires { ⌜ HeadBounds head ⌝ }
     ensures { λ out. ⌜ EffectPost (registerIn head (now (gates .entry)) (now (authorities .entry)) (now (trains .entry))) (Call.Grant n officer) (registerIn out (now (gates .entry)) (now (authorities .exit)) (now (trains .exit))) ⌝ }
 {
-    authorities::amend(authorities, head.live, n, Change::Granted);
+    amendments::amend(authorities, head.live, n, Change::Granted);
     head
 }
 
 pub fn clear(
     head: Head,
-    gates: &[u16; 192],
+    gates: &[u16; 320],
     authorities: &mut [u64; 256],
     trains: &mut [u16; 128],
     n: AuthorityNo,
@@ -131,13 +136,13 @@ pub fn clear(
     requires { ⌜ HeadBounds head ⌝ }
     ensures { λ out. ⌜ EffectPost (registerIn head (now (gates .entry)) (now (authorities .entry)) (now (trains .entry))) (Call.Clear n officer) (registerIn out (now (gates .entry)) (now (authorities .exit)) (now (trains .exit))) ⌝ }
 {
-    authorities::amend(authorities, head.live, n, Change::Site(false));
+    amendments::amend(authorities, head.live, n, Change::Site(false));
     head
 }
 
 pub fn reoccupy(
     head: Head,
-    gates: &[u16; 192],
+    gates: &[u16; 320],
     authorities: &mut [u64; 256],
     trains: &mut [u16; 128],
     n: AuthorityNo,
@@ -146,13 +151,13 @@ pub fn reoccupy(
     requires { ⌜ HeadBounds head ⌝ }
     ensures { λ out. ⌜ EffectPost (registerIn head (now (gates .entry)) (now (authorities .entry)) (now (trains .entry))) (Call.Reoccupy n officer) (registerIn out (now (gates .entry)) (now (authorities .exit)) (now (trains .exit))) ⌝ }
 {
-    authorities::amend(authorities, head.live, n, Change::Site(true));
+    amendments::amend(authorities, head.live, n, Change::Site(true));
     head
 }
 
 pub fn hand_over(
     head: Head,
-    gates: &[u16; 192],
+    gates: &[u16; 320],
     authorities: &mut [u64; 256],
     trains: &mut [u16; 128],
     n: AuthorityNo,
@@ -162,13 +167,13 @@ pub fn hand_over(
     requires { ⌜ HeadBounds head ⌝ }
     ensures { λ o. ⌜ EffectPost (registerIn head (now (gates .entry)) (now (authorities .entry)) (now (trains .entry))) (Call.HandOver n out into) (registerIn o (now (gates .entry)) (now (authorities .exit)) (now (trains .exit))) ⌝ }
 {
-    authorities::amend(authorities, head.live, n, Change::Officer(into));
+    amendments::amend(authorities, head.live, n, Change::Officer(into));
     head
 }
 
 pub fn term(
     head: Head,
-    gates: &[u16; 192],
+    gates: &[u16; 320],
     authorities: &mut [u64; 256],
     trains: &mut [u16; 128],
     n: AuthorityNo,
@@ -179,7 +184,7 @@ pub fn term(
     requires { ⌜ HeadBounds head ⌝ }
     ensures { λ out. ⌜ EffectPost (registerIn head (now (gates .entry)) (now (authorities .entry)) (now (trains .entry))) (Call.Term n day time length) (registerIn out (now (gates .entry)) (now (authorities .exit)) (now (trains .exit))) ⌝ }
 {
-    authorities::amend(
+    amendments::amend(
         authorities,
         head.live,
         n,
@@ -190,7 +195,7 @@ pub fn term(
 
 pub fn join(
     head: Head,
-    gates: &[u16; 192],
+    gates: &[u16; 320],
     authorities: &mut [u64; 256],
     trains: &mut [u16; 128],
     twa: AuthorityNo,
@@ -201,6 +206,58 @@ pub fn join(
     requires { ⌜ HeadBounds head ⌝ }
     ensures { λ out. ⌜ EffectPost (registerIn head (now (gates .entry)) (now (authorities .entry)) (now (trains .entry))) (Call.Join twa toa officer distance) (registerIn out (now (gates .entry)) (now (authorities .exit)) (now (trains .exit))) ⌝ }
 {
-    authorities::amend(authorities, head.live, toa, Change::Agreed(twa));
+    amendments::amend(authorities, head.live, toa, Change::Agreed(twa));
+    head
+}
+
+pub fn book_out(
+    head: Head,
+    gates: &mut [u16; 320],
+    authorities: &[u64; 256],
+    trains: &[u16; 128],
+    g: GateNo,
+    paper: PaperNo,
+) -> Head
+    requires { ⌜ HeadBounds head ⌝ }
+    ensures { λ out. ⌜ EffectPost (registerIn head (now (gates .entry)) (now (authorities .entry)) (now (trains .entry))) (Call.BookOut g paper) (registerIn out (now (gates .exit)) (now (authorities .entry)) (now (trains .entry))) ⌝ }
+{
+    let booking = Booking {
+        paper,
+        replaced: PaperNo(0),
+    };
+    bookings::put_booking(gates, head.gate_count, g, booking);
+    head
+}
+
+// The booking that BOOK IN leaves: none where the gate is certified, else the new paper with the call's beside it.
+fn booked_in(paper: PaperNo, certified: bool, new: PaperNo) -> Booking
+    ensures { λ r. ⌜ r ≡ bookedIn paper certified new ⌝ }
+{
+    if certified {
+        return Booking {
+            paper: PaperNo(0),
+            replaced: PaperNo(0),
+        };
+    }
+    Booking {
+        paper: new,
+        replaced: paper,
+    }
+}
+
+pub fn book_in(
+    head: Head,
+    gates: &mut [u16; 320],
+    authorities: &[u64; 256],
+    trains: &[u16; 128],
+    g: GateNo,
+    paper: PaperNo,
+    certified: bool,
+    new: PaperNo,
+) -> Head
+    requires { ⌜ HeadBounds head ⌝ }
+    ensures { λ out. ⌜ EffectPost (registerIn head (now (gates .entry)) (now (authorities .entry)) (now (trains .entry))) (Call.BookIn g paper certified new) (registerIn out (now (gates .exit)) (now (authorities .entry)) (now (trains .entry))) ⌝ }
+{
+    bookings::put_booking(gates, head.gate_count, g, booked_in(paper, certified, new));
     head
 }

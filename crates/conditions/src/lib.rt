@@ -14,7 +14,7 @@ use trains::TrainQuery;
 // 9: 32 held, or 9999 allotted.
 pub fn is_full(
     head: Head,
-    gates: &[u16; 192],
+    gates: &[u16; 320],
     authorities: &[u64; 256],
     trains: &[u16; 128],
 ) -> bool
@@ -27,7 +27,7 @@ pub fn is_full(
 // 11: a gate that the authority needs isn't blocked.
 pub fn is_unprotected(
     head: Head,
-    gates: &[u16; 192],
+    gates: &[u16; 320],
     authorities: &[u64; 256],
     trains: &[u16; 128],
     a: Authority,
@@ -41,7 +41,7 @@ pub fn is_unprotected(
 // 12 of GRANT and REOCCUPY: a train touches the limits.
 pub fn is_occupied(
     head: Head,
-    gates: &[u16; 192],
+    gates: &[u16; 320],
     authorities: &[u64; 256],
     trains: &[u16; 128],
     a: Authority,
@@ -55,7 +55,7 @@ pub fn is_occupied(
 // 12 of CONTINUE: a train is in the way of the new authority.
 pub fn is_occupied_beside(
     head: Head,
-    gates: &[u16; 192],
+    gates: &[u16; 320],
     authorities: &[u64; 256],
     trains: &[u16; 128],
     old: AuthorityNo,
@@ -70,7 +70,7 @@ pub fn is_occupied_beside(
 // 13: another in force shares a portion, old not counted.
 pub fn is_overlapping(
     head: Head,
-    gates: &[u16; 192],
+    gates: &[u16; 320],
     authorities: &[u64; 256],
     trains: &[u16; 128],
     old: AuthorityNo,
@@ -85,7 +85,7 @@ pub fn is_overlapping(
 // 16: an authority in force needs the gate.
 pub fn is_still_needed(
     head: Head,
-    gates: &[u16; 192],
+    gates: &[u16; 320],
     authorities: &[u64; 256],
     trains: &[u16; 128],
     g: GateNo,

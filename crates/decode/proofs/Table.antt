@@ -23,7 +23,7 @@ pub no-place : {A : Type 0} (d : A) (xs : List A) (n : ℕ) → NoneOf n (length
 no-place d xs zero h = refl
 no-place d xs (suc n) h = sym (List·getD-eq-default xs d (beyond n (length xs) h))
 
-pub no-entry : (n : ℕ) → NoneOf n 15 → noEntry ≡ entryOf n
+pub no-entry : (n : ℕ) → NoneOf n 17 → noEntry ≡ entryOf n
 unfolding entryOf calls
 no-entry n h = no-place noEntry calls n h
 
@@ -36,6 +36,6 @@ neither true b = refl
 neither false b = refl
 
 -- the test for a call as the code has it
-pub is-call : (n : ℕ) → isCall n ≡ not (ltb n 1 || ltb 15 n)
+pub is-call : (n : ℕ) → isCall n ≡ not (ltb n 1 || ltb 17 n)
 unfolding isCall calls
-is-call n = rw (leb-not 1 n _ refl, leb-not n 15 _ refl) (neither (ltb n 1) (ltb 15 n))
+is-call n = rw (leb-not 1 n _ refl, leb-not n 17 _ refl) (neither (ltb n 1) (ltb 17 n))

@@ -1,26 +1,37 @@
-// Reading a call off its seven numbers: its number is matched over 1 to 15 and the range beyond, its fields are then matched by kind.
+// Reading a call off its seven numbers: its number is matched over 1 to 17 and the range beyond, its fields are then matched by kind.
 ghost use mathlib.Core.Path.{_≡_};
-ghost use Rattle.rules.specs.Call.{inRange, inForm, kindOf, entryOf, named, decoded};
+ghost use Rattle.rules.specs.Call.{isNewPaper, inRange, inForm, kindOf, entryOf, named, decoded};
 use rules::AuthorityNo;
 use rules::Call;
 use rules::Field;
 use rules::Form;
 use rules::GateNo;
 use rules::Kind;
+use rules::PaperNo;
 use rules::Seven;
 use rules::TrainNo;
 use stamps::is_day;
 use stamps::is_stamp;
 use stamps::is_time;
 
-// The value is in the range of its kind of field; next is the value of the field after it.
-fn is_in_range(portions: u16, gates: usize, field: Field, value: u16, next: u16) -> bool
-    ensures { λ r. ⌜ r ≡ inRange portions gates field value next ⌝ }
+// The new paper of a BOOK IN: none where the gate is certified, else another than the call's paper.
+fn is_new_paper(paper: u16, certified: u16, new: u16) -> bool
+    ensures { λ r. ⌜ r ≡ isNewPaper paper certified new ⌝ }
+{
+    if certified == 1 {
+        return new == 0;
+    }
+    (1 <= new) & (new <= 9999) & (new != paper)
+}
+
+// The value of a field of the call is in the range of its kind.
+fn is_in_range(portions: u16, gates: usize, field: Field, s: Seven, value: u16) -> bool
+    ensures { λ r. ⌜ r ≡ inRange portions gates field s value ⌝ }
 {
     match field {
         Field::Unused => value == 0,
         Field::Kind => (1 <= value) & (value <= 3),
-        Field::First => value <= next,
+        Field::First => value <= s.c,
         Field::Last => value < portions,
         Field::Officer => (1 <= value) & (value <= 999),
         Field::Authority => (1 <= value) & (value <= 9999),
@@ -33,6 +44,9 @@ fn is_in_range(portions: u16, gates: usize, field: Field, value: u16, next: u16)
         Field::Time => is_time(value),
         Field::Length => 1 <= value,
         Field::Distance => true,
+        Field::Paper => (1 <= value) & (value <= 9999),
+        Field::Certified => value <= 1,
+        Field::NewPaper => is_new_paper(s.b, s.c, value),
     }
 }
 
@@ -131,6 +145,18 @@ fn form_of(call: u16) -> Form
             c: Field::Officer,
             d: Field::Distance,
         },
+        16 => Form {
+            a: Field::Gate,
+            b: Field::Paper,
+            c: Field::Unused,
+            d: Field::Unused,
+        },
+        17 => Form {
+            a: Field::Gate,
+            b: Field::Paper,
+            c: Field::Certified,
+            d: Field::NewPaper,
+        },
         _ => Form {
             a: Field::Unused,
             b: Field::Unused,
@@ -148,10 +174,10 @@ fn is_in_form(portions: u16, gates: usize, f: Form, s: Seven) -> bool
     let b = f.b;
     let c = f.c;
     let d = f.d;
-    is_in_range(portions, gates, a, s.a, s.b)
-        & is_in_range(portions, gates, b, s.b, s.c)
-        & is_in_range(portions, gates, c, s.c, s.d)
-        & is_in_range(portions, gates, d, s.d, 0)
+    is_in_range(portions, gates, a, s, s.a)
+        & is_in_range(portions, gates, b, s, s.b)
+        & is_in_range(portions, gates, c, s, s.c)
+        & is_in_range(portions, gates, d, s, s.d)
 }
 
 // The kind with that number.
@@ -237,6 +263,16 @@ fn name(s: Seven) -> Call
             officer: s.c,
             distance: s.d,
         },
+        16 => Call::BookOut {
+            gate: GateNo(s.a),
+            paper: PaperNo(s.b),
+        },
+        17 => Call::BookIn {
+            gate: GateNo(s.a),
+            paper: PaperNo(s.b),
+            certified: s.c == 1,
+            new: PaperNo(s.d),
+        },
         _ => Call::NoSuchCall,
     }
 }
@@ -247,7 +283,7 @@ pub fn decode(portions: u16, gates: usize, s: Seven) -> Call
     ensures { λ r. ⌜ r ≡ decoded portions gates s ⌝ }
 {
     let call = s.call;
-    if (call < 1) | (15 < call) {
+    if (call < 1) | (17 < call) {
         return Call::NoSuchCall;
     }
     if !is_stamp(s.day, s.time) {

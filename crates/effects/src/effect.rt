@@ -7,10 +7,12 @@ ghost use Rattle.rules.specs.Refusals.{lowest, own};
 ghost use Rattle.places.specs.Places.{HeadBounds, registerIn, boardIn};
 ghost use Rattle.changes.specs.Effects.{EffectPost};
 ghost use Rattle.effects.specs.Room.{HasRoom};
-use authorities::Change;
+use amendments::Change;
 use authorities::Found;
 use changes::agree;
 use changes::block;
+use changes::book_in;
+use changes::book_out;
 use changes::clear;
 use changes::grant;
 use changes::hand_over;
@@ -32,7 +34,7 @@ use trains::FoundTrain;
 
 fn fulfil(
     head: Head,
-    gates: &[u16; 192],
+    gates: &[u16; 320],
     authorities: &mut [u64; 256],
     trains: &mut [u16; 128],
     n: AuthorityNo,
@@ -43,7 +45,7 @@ fn fulfil(
     ensures { λ out. ⌜ EffectPost (registerIn head (now (gates .entry)) (now (authorities .entry)) (now (trains .entry))) (Call.Fulfil n officer assurances) (registerIn out (now (gates .entry)) (now (authorities .exit)) (now (trains .exit))) ⌝ }
 {
     let mut out = head;
-    out.live = authorities::end_authority(authorities, head.live, n);
+    out.live = amendments::end_authority(authorities, head.live, n);
     traffic::change_trains(trains, head.running, TrainChange::Freed(n));
     out
 }
@@ -51,7 +53,7 @@ fn fulfil(
 // The limits of the live authority with that number.
 fn limits_of(
     head: Head,
-    gates: &[u16; 192],
+    gates: &[u16; 320],
     authorities: &[u64; 256],
     trains: &[u16; 128],
     n: AuthorityNo,
@@ -67,7 +69,7 @@ fn limits_of(
 
 fn continue_as(
     head: Head,
-    gates: &[u16; 192],
+    gates: &[u16; 320],
     authorities: &mut [u64; 256],
     trains: &mut [u16; 128],
     old: AuthorityNo,
@@ -80,8 +82,8 @@ fn continue_as(
 {
     let limits = limits_of(head, gates, authorities, trains, new);
     let mut out = head;
-    out.live = authorities::end_authority(authorities, head.live, old);
-    authorities::amend(authorities, out.live, new, Change::Granted);
+    out.live = amendments::end_authority(authorities, head.live, old);
+    amendments::amend(authorities, out.live, new, Change::Granted);
     traffic::change_trains(
         trains,
         head.running,
@@ -92,7 +94,7 @@ fn continue_as(
 
 fn move_train(
     head: Head,
-    gates: &[u16; 192],
+    gates: &[u16; 320],
     authorities: &mut [u64; 256],
     trains: &mut [u16; 128],
     t: TrainNo,
@@ -123,7 +125,7 @@ fn move_train(
 // The head of the train with that number is outside.
 fn is_head_outside(
     head: Head,
-    gates: &[u16; 192],
+    gates: &[u16; 320],
     authorities: &[u64; 256],
     trains: &[u16; 128],
     t: TrainNo,
@@ -139,7 +141,7 @@ fn is_head_outside(
 
 fn passed(
     head: Head,
-    gates: &[u16; 192],
+    gates: &[u16; 320],
     authorities: &mut [u64; 256],
     trains: &mut [u16; 128],
     t: TrainNo,
@@ -159,14 +161,14 @@ fn passed(
 // Does what the accepted call does, but for its stamp.
 pub fn effect_of(
     head: Head,
-    gates: &[u16; 192],
+    gates: &mut [u16; 320],
     authorities: &mut [u64; 256],
     trains: &mut [u16; 128],
     s: Seven,
     c: Call,
 ) -> Head
     requires { ⌜ HeadBounds head × (lowest (own (boardIn head (now gates) (now authorities) (now trains)) s c) ≡ 0) ⌝ }
-    ensures { λ out. ⌜ EffectPost (registerIn head (now (gates .entry)) (now (authorities .entry)) (now (trains .entry))) c (registerIn out (now (gates .entry)) (now (authorities .exit)) (now (trains .exit))) ⌝ }
+    ensures { λ out. ⌜ EffectPost (registerIn head (now (gates .entry)) (now (authorities .entry)) (now (trains .entry))) c (registerIn out (now (gates .exit)) (now (authorities .exit)) (now (trains .exit))) ⌝ }
 {
     match c {
         Call::NoSuchCall => head,
@@ -298,6 +300,22 @@ pub fn effect_of(
             toa,
             officer,
             distance,
+        ),
+        Call::BookOut { gate, paper } => book_out(head, gates, authorities, trains, gate, paper),
+        Call::BookIn {
+            gate,
+            paper,
+            certified,
+            new,
+        } => book_in(
+            head,
+            gates,
+            authorities,
+            trains,
+            gate,
+            paper,
+            certified,
+            new,
         ),
     }
 }

@@ -9,7 +9,7 @@ use rules::Gate;
 use rules::GateNo;
 
 // The gate with that number, of a plan that has the first count of the array; past those stands none.
-pub fn gate_at(gates: &[u16; 192], count: usize, g: GateNo) -> Gate
+pub fn gate_at(gates: &[u16; 320], count: usize, g: GateNo) -> Gate
     requires { ⌜ count ≤ 64 ⌝ }
     ensures { λ r. ⌜ r ≡ gateAt (prefix count (gatesIn (now (gates .entry)))) (g .0) ⌝ }
 {
@@ -33,7 +33,7 @@ pub fn is_needed(limits: u64, gate: Gate) -> bool
 }
 
 // The set of the gates that lead into the limits, of a plan that has the first count of the array.
-pub fn needed(gates: &[u16; 192], count: usize, limits: u64) -> u64
+pub fn needed(gates: &[u16; 320], count: usize, limits: u64) -> u64
     requires { ⌜ count ≤ 64 ⌝ }
     ensures { λ r. ⌜ r ≡ neededOf (prefix count (gatesIn (now (gates .entry)))) limits ⌝ }
 {

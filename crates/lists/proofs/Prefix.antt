@@ -6,8 +6,8 @@ use native.Mathlib.Numerals.{add-one}
 use mathlib.Core.Path.{_≡_, refl, sym, _∙_}
 use mathlib.Core.Bool.{Bool, true, false, cond}
 use mathlib.Core.List.{List, [], _∷_, _++_, map, append-assoc, append-nil}
-use lib.ListN.{length, take, drop, getD, set, length-take, length-map, drop-of-length-le}
-use lib.Seq.{drop-cons, take-suc, take-suc-set, getD-take, length-take-le, set-at, take-at}
+use lib.ListN.{length, take, drop, getD, set, length-take, length-map, drop-of-length-le, List·getD-eq-default}
+use lib.Seq.{drop-cons, take-suc, take-suc-set, take-set-lt, set-out, getD-take, length-take-le, set-at, take-at}
 use Rattle.lists.specs.Search.{any, first, keep, change}
 use Rattle.lists.specs.Prefix.{prefix}
 use Rattle.lists.proofs.Search.{Member, member-at, keep-append, change-append, length-change}
@@ -35,6 +35,24 @@ module _ {A : Type 0} where
   pub prefix-member : (l : List A) (count i : ℕ) (d : A) → i < count → count ≤ length l → Member (getD l i d) (prefix count l)
   unfolding prefix
   prefix-member l count i d h k = rw (← getD-take count l i d h) (member-at d (take count l) i (omega (arith, length-take-le count l k)))
+
+  -- an element of the prefix is as it is in the list, and past it stands the default
+  pub prefix-at : (l : List A) (count i : ℕ) (d : A) → i < count → getD (prefix count l) i d ≡ getD l i d
+  unfolding prefix
+  prefix-at l count i d h = getD-take count l i d h
+
+  pub prefix-past : (l : List A) (count i : ℕ) (d : A) → count ≤ i → getD (prefix count l) i d ≡ d
+  unfolding prefix
+  prefix-past l count i d h = List·getD-eq-default (take count l) d (simp length-take (omega arith))
+
+  -- an element stored in the list is stored in the prefix, and past it nothing is
+  pub prefix-set : (l : List A) (count i : ℕ) (x : A) → i < count → prefix count (set l i x) ≡ set (prefix count l) i x
+  unfolding prefix
+  prefix-set l count i x h = take-set-lt count l i x h
+
+  pub prefix-set-past : (l : List A) (count i : ℕ) (x : A) → count ≤ i → set (prefix count l) i x ≡ prefix count l
+  unfolding prefix
+  prefix-set-past l count i x h = set-out (take count l) i x (simp length-take (omega arith))
 
   pub prefix-none : (l : List A) → prefix 0 l ≡ []
   unfolding prefix

@@ -24,7 +24,7 @@ use trains::TrainQuery;
 // 9: from outside, 32 trains on the board.
 fn has_no_room(
     head: Head,
-    gates: &[u16; 192],
+    gates: &[u16; 320],
     authorities: &[u64; 256],
     trains: &[u16; 128],
     gate: Gate,
@@ -38,7 +38,7 @@ fn has_no_room(
 // 12: no E, and another train touches "to".
 fn is_taken(
     head: Head,
-    gates: &[u16; 192],
+    gates: &[u16; 320],
     authorities: &[u64; 256],
     trains: &[u16; 128],
     t: TrainNo,
@@ -57,7 +57,7 @@ fn is_taken(
 // 14: W has workers on.
 fn is_worked_on(
     head: Head,
-    gates: &[u16; 192],
+    gates: &[u16; 320],
     authorities: &[u64; 256],
     trains: &[u16; 128],
     to: u16,
@@ -75,7 +75,7 @@ fn is_worked_on(
 // 17: from outside, the train is on the board; else it isn't there with head and rear both at "from".
 fn is_not_there(
     head: Head,
-    gates: &[u16; 192],
+    gates: &[u16; 320],
     authorities: &[u64; 256],
     trains: &[u16; 128],
     t: TrainNo,
@@ -96,7 +96,7 @@ fn is_not_there(
 // 18: gate blocked, no E and no W.
 fn is_barred(
     head: Head,
-    gates: &[u16; 192],
+    gates: &[u16; 320],
     authorities: &[u64; 256],
     trains: &[u16; 128],
     g: GateNo,
@@ -113,7 +113,7 @@ fn is_barred(
 // 19: authority and officer aren't those of E, else those of W, else 0 and 0.
 fn is_not_piloted(
     head: Head,
-    gates: &[u16; 192],
+    gates: &[u16; 320],
     authorities: &[u64; 256],
     trains: &[u16; 128],
     to: u16,
@@ -137,7 +137,7 @@ fn is_not_piloted(
 // The answer to MOVE through the gate, with E and W found.
 fn decide_move(
     head: Head,
-    gates: &[u16; 192],
+    gates: &[u16; 320],
     authorities: &[u64; 256],
     trains: &[u16; 128],
     t: TrainNo,
@@ -174,7 +174,7 @@ fn decide_move(
 
 pub fn answer_move(
     head: Head,
-    gates: &[u16; 192],
+    gates: &[u16; 320],
     authorities: &[u64; 256],
     trains: &[u16; 128],
     t: TrainNo,
@@ -205,7 +205,7 @@ pub fn answer_move(
 
 pub fn answer_passed(
     head: Head,
-    gates: &[u16; 192],
+    gates: &[u16; 320],
     authorities: &[u64; 256],
     trains: &[u16; 128],
     t: TrainNo,

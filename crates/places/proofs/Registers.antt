@@ -9,12 +9,16 @@ use Rattle.lists.proofs.Prefix.{length-prefix}
 use Rattle.rules.specs.declared.Register.{Register}
 use Rattle.rules.specs.Step.{Bounds}
 use Rattle.places.specs.declared.head.Head.{Head}
-use Rattle.places.specs.Places.{gateFrom, authorityFrom, trainFrom, gatesIn, authoritiesIn, trainsIn, headOf, registerIn, HeadBounds}
+use Rattle.places.specs.Places.{gateFrom, bookingFrom, authorityFrom, trainFrom, gatesIn, bookingsIn, authoritiesIn, trainsIn, headOf, registerIn, HeadBounds}
 use Rattle.places.proofs.Groups.{length-places}
 
 pub gates-length : (l : List ℕ) → length (gatesIn l) ≡ 64
 unfolding gatesIn
-gates-length l = length-places gateFrom 3 64 l
+gates-length l = length-places gateFrom 5 64 l
+
+pub bookings-length : (l : List ℕ) → length (bookingsIn l) ≡ 64
+unfolding bookingsIn
+bookings-length l = length-places bookingFrom 5 64 l
 
 pub authorities-length : (l : List ℕ) → length (authoritiesIn l) ≡ 32
 unfolding authoritiesIn
@@ -25,9 +29,10 @@ unfolding trainsIn
 trains-length l = length-places trainFrom 4 32 l
 
 -- a register put into a head and three arrays
-pub spread : {h : Head} {r : Register} (g a t : List ℕ) → h ≡ headOf r → gatesIn g ≡ r .gates → authoritiesIn a ≡ r .authorities → trainsIn t ≡ r .trains
+pub spread : {h : Head} {r : Register} (g a t : List ℕ) → h ≡ headOf r → (gatesIn g ≡ r .gates) × (bookingsIn g ≡ r .bookings)
+    → authoritiesIn a ≡ r .authorities → trainsIn t ≡ r .trains
     → registerIn h g a t ≡ r
-spread g a t e eg ea et = rw (e, eg, ea, et)
+spread g a t e eg ea et = rw (e, eg .0, eg .1, ea, et)
 
 -- its bounds are the head's
 module _ (h : Head) (g a t : List ℕ) where

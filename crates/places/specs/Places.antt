@@ -5,6 +5,7 @@ use mathlib.Core.List.{List, [], _∷_, map}
 use lib.ListN.{take, drop, getD}
 use lib.Dec.{eqb}
 use Rattle.rules.specs.declared.Gate.{Gate}
+use Rattle.rules.specs.declared.Booking.{Booking}
 use Rattle.rules.specs.declared.Authority.{Authority}
 use Rattle.rules.specs.declared.Train.{Train}
 use Rattle.rules.specs.declared.Register.{Register}
@@ -21,9 +22,12 @@ groups w (suc n) l = take w l ∷ groups w n (drop w l)
 abbrev pub nth : ℕ → List ℕ → ℕ
 nth k group = getD group k 0
 
--- a group of three as a gate, one of eight as an authority, one of four as a train
+-- a group of five as a gate and its booking, one of eight as an authority, one of four as a train
 unfoldable pub gateFrom : List ℕ → Gate
 gateFrom group = record { from = nth 0 group; to = nth 1 group; kind = nth 2 group }
+
+unfoldable pub bookingFrom : List ℕ → Booking
+bookingFrom group = record { paper = record { 0 = nth 3 group }; replaced = record { 0 = nth 4 group } }
 
 unfoldable pub authorityFrom : List ℕ → Authority
 authorityFrom group = record {
@@ -46,9 +50,12 @@ trainFrom group = record {
   with = record { 0 = nth 3 group };
 }
 
--- the 64 gates, the 32 authorities and the 32 trains in an array's numbers
+-- the 64 gates and their bookings, the 32 authorities and the 32 trains in an array's numbers
 unfoldable pub gatesIn : List ℕ → List Gate
-gatesIn l = map gateFrom (groups 3 64 l)
+gatesIn l = map gateFrom (groups 5 64 l)
+
+unfoldable pub bookingsIn : List ℕ → List Booking
+bookingsIn l = map bookingFrom (groups 5 64 l)
 
 unfoldable pub authoritiesIn : List ℕ → List Authority
 authoritiesIn l = map authorityFrom (groups 8 32 l)
@@ -75,6 +82,7 @@ registerIn h gates authorities trains = record {
   portions = h .portions;
   «gate_count» = h .«gate_count»;
   gates = gatesIn gates;
+  bookings = bookingsIn gates;
   day = h .day;
   time = h .time;
   last = h .last;

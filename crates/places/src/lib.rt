@@ -6,6 +6,7 @@ mod train;
 
 pub use authority::authority_at;
 pub use authority::put_authority;
+pub use gate::booking_at;
 pub use gate::gate_at;
 pub use gate::put_gate;
 pub use head::Head;

@@ -1,6 +1,6 @@
 -- The laws of sets of numbers below 64, by membership: what callers cite. Assumes nothing.
 use mathlib.Core.Path.{_≡_, refl, sym, ap, _∙_}
-use mathlib.Core.Logic.{⊎-elim}
+use mathlib.Core.Logic.{_⊎_, inl, inr, ⊎-elim}
 use mathlib.Core.Bool.{Bool, true, false, cond, not, _&&_, _||_, and-true, and-false, or-false}
 use mathlib.Core.List.{List, _∷_}
 use Prim.Native.Nat.{ℕ, zero, suc, _+_, _*_, _/_, _%_, _^_, _≤_, _<_}
@@ -16,7 +16,7 @@ use lib.Count.{ones, ones-cat, ones-ones}
 use lib.ListN.{length}
 use Rattle.lists.specs.Search.{keep, below}
 use Rattle.lists.proofs.Search.{none-below, below-none, some-below, below-some}
-use Rattle.lists.proofs.Tests.{lt-or-le, truth, clash, same-test, and-l, and-r, and-i, and-no-r, or-no, not-yes, not-no}
+use Rattle.lists.proofs.Tests.{told, lt-or-le, truth, clash, same-test, and-l, and-r, and-i, and-no-r, or-no, or-cases, not-yes, not-no}
 use Rattle.portions.specs.Sets.{has, setOf, between, run, isOrIn, insert, isNotAndIn, remove, inBoth, shares, inFirstOnly, subset}
 use Rattle.portions.specs.Sets.{inEither, union, isMember, size}
 use Rattle.portions.proofs.Bits.{digit, same-members, has-none, has-high, has-and, has-or, has-power}
@@ -125,6 +125,28 @@ pub has-remove : (p set q : ℕ) → set < 2 ^ 64 → has q (remove p set) ≡ n
 unfolding remove
 has-remove p set q h =
     closed-setOf 64 (isNotAndIn p set) q (λ out. rw (has-high 64 q set h out, and-false))
+
+-- of any set: a number below 64 is a member of the set with p where it is p or was a member, of the set without p where it isn't p and was one
+pub insert-below : (p set q : ℕ) → q < 64 → has q (insert p set) ≡ (eqb q p || has q set)
+unfolding insert
+insert-below p set q l = in-setOf 64 (isOrIn p set) q l
+
+pub remove-below : (p set q : ℕ) → q < 64 → has q (remove p set) ≡ (not (eqb q p) && has q set)
+unfolding remove
+remove-below p set q l = in-setOf 64 (isNotAndIn p set) q l
+
+-- and a member of them, of any size
+pub in-insert : (p set q : ℕ) → has q (insert p set) ≡ true → (q ≡ p) ⊎ (has q set ≡ true)
+unfolding insert
+in-insert p set q e =
+    ⊎-elim (λ k. inl (eqb-true q p k)) inr
+    (or-cases (eqb q p) (has q set) (and-r (ltb q 64) (isOrIn p set q) (sym (has-setOf 64 (isOrIn p set) q) ∙ e)))
+
+pub in-remove : (p set q : ℕ) → has q (remove p set) ≡ true → (q ≡ p → ⊥) × (has q set ≡ true)
+unfolding remove
+in-remove p set q e =
+    let k : (ltb q 64 && isNotAndIn p set q) ≡ true = sym (has-setOf 64 (isNotAndIn p set) q) ∙ e in
+    (eqb-false q p (search (told, k)), search (told, k))
 
 -- ---- the members of two sets
 

@@ -1,8 +1,9 @@
 // A whole register put into the arrays of numbers, and read back from them.
 ghost use mathlib.Core.Path.{_≡_};
-ghost use Rattle.places.specs.Places.{gatesIn, authoritiesIn, trainsIn, registerIn};
+ghost use Rattle.places.specs.Places.{gatesIn, bookingsIn, authoritiesIn, trainsIn, registerIn};
 use places::Head;
 use places::authority_at;
+use places::booking_at;
 use places::gate_at;
 use places::put_authority;
 use places::put_gate;
@@ -10,18 +11,20 @@ use places::put_train;
 use places::train_at;
 use rules::Authority;
 use rules::AuthorityNo;
+use rules::Booking;
 use rules::Gate;
 use rules::Kind;
+use rules::PaperNo;
 use rules::Register;
 use rules::Train;
 use rules::TrainNo;
 
-pub fn write_gates(r: Register, gates: &mut [u16; 192])
-    ensures { λ _. ⌜ gatesIn (now (gates .exit)) ≡ r .gates ⌝ }
+pub fn write_gates(r: Register, gates: &mut [u16; 320])
+    ensures { λ _. ⌜ (gatesIn (now (gates .exit)) ≡ r .gates) × (bookingsIn (now (gates .exit)) ≡ r .bookings) ⌝ }
 {
     let mut i: usize = 0;
     while i < 64 {
-        put_gate(gates, i, r.gates[i]);
+        put_gate(gates, i, r.gates[i], r.bookings[i]);
         i += 1;
     }
 }
@@ -46,7 +49,7 @@ pub fn write_trains(r: Register, trains: &mut [u16; 128])
     }
 }
 
-fn read_gates(gates: &[u16; 192]) -> [Gate; 64]
+fn read_gates(gates: &[u16; 320]) -> [Gate; 64]
     ensures { λ l. ⌜ l ≡ gatesIn (now (gates .entry)) ⌝ }
 {
     let none = Gate {
@@ -58,6 +61,22 @@ fn read_gates(gates: &[u16; 192]) -> [Gate; 64]
     let mut i: usize = 0;
     while i < 64 {
         list[i] = gate_at(gates, i);
+        i += 1;
+    }
+    list
+}
+
+fn read_bookings(gates: &[u16; 320]) -> [Booking; 64]
+    ensures { λ l. ⌜ l ≡ bookingsIn (now (gates .entry)) ⌝ }
+{
+    let none = Booking {
+        paper: PaperNo(0),
+        replaced: PaperNo(0),
+    };
+    let mut list = [none; 64];
+    let mut i: usize = 0;
+    while i < 64 {
+        list[i] = booking_at(gates, i);
         i += 1;
     }
     list
@@ -106,12 +125,13 @@ fn read_trains(trains: &[u16; 128]) -> [Train; 32]
 
 pub fn read_register(
     head: Head,
-    gates: &[u16; 192],
+    gates: &[u16; 320],
     authorities: &[u64; 256],
     trains: &[u16; 128],
 ) -> Register
     ensures { λ r. ⌜ r ≡ registerIn head (now (gates .entry)) (now (authorities .entry)) (now (trains .entry)) ⌝ }
 {
+    let bookings = read_bookings(gates);
     let gates = read_gates(gates);
     let authorities = read_authorities(authorities);
     let trains = read_trains(trains);
@@ -119,6 +139,7 @@ pub fn read_register(
         portions: head.portions,
         gate_count: head.gate_count,
         gates,
+        bookings,
         day: head.day,
         time: head.time,
         last: head.last,

@@ -13,7 +13,7 @@ use Rattle.lists.proofs.Tests.{and-l, and-r}
 use Rattle.lists.proofs.Search.{Member}
 use Rattle.rules.specs.declared.Seven.{Seven}
 use Rattle.rules.specs.declared.Call.{Call}
-use Rattle.rules.specs.declared.Call.the-variants.{NoSuchCall, BadField, Request, Withdraw, Agree, Block, Unblock, Grant, Clear, Reoccupy, HandOver, Fulfil, Continue, Move, Passed, Term, Join}
+use Rattle.rules.specs.declared.Call.the-variants.{NoSuchCall, BadField, Request, Withdraw, Agree, Block, Unblock, Grant, Clear, Reoccupy, HandOver, Fulfil, Continue, Move, Passed, Term, Join, BookOut, BookIn}
 use Rattle.rules.specs.Board.{Board}
 use Rattle.rules.specs.Call.{named}
 use Rattle.rules.specs.Refusals.{Refusal, lowest, own, conditions, answer}
@@ -24,7 +24,7 @@ use Rattle.rules.specs.Step.{after, allotted}
 
 -- the greatest refusal of a call
 abbrev pub greatest : ℕ
-greatest = 24
+greatest = 25
 
 -- the numbers ascend, all above n, none above the greatest
 unfoldable pub ascends : ℕ → List Refusal → Bool
@@ -50,6 +50,8 @@ own-ascends b s (Move t g n officer) = refl
 own-ascends b s (Passed t) = refl
 own-ascends b s (Term n day time length) = refl
 own-ascends b s (Join twa toa officer distance) = refl
+own-ascends b s (BookOut g paper) = refl
+own-ascends b s (BookIn g paper certified new) = refl
 
 -- THEOREM: the conditions of every call are listed in ascending order, from 1 on, so the first that holds is the lowest
 pub ascending : (b : Board) (s : Seven) (room : ℕ) → ascends 0 (conditions b s room) ≡ true

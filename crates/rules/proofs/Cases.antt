@@ -1,4 +1,4 @@
--- The ten cases of 01 marked E, and those of 02's orders 1, 4 and 5, from the rules by computation, in one joint theorem. Assumes nothing.
+-- The ten cases of 01 marked E, and those of 02's orders 1, 4, 5 and 6, from the rules by computation, in one joint theorem. Assumes nothing.
 use Prim.Native.Nat.{ℕ}
 use mathlib.Core.Path.{_≡_, refl}
 use mathlib.Core.List.{List, [], _∷_, _++_, map}
@@ -11,6 +11,7 @@ use Rattle.columns.specs.Line as Line
 use Rattle.reading.specs.Reading as Reading
 use Rattle.portions.specs.Sets as Sets
 use Rattle.rules.specs.declared.Seven.{Seven}
+use Rattle.rules.specs.declared.Booking.{Booking}
 use Rattle.rules.specs.Board as Board
 use Rattle.rules.specs.Call as Call
 use Rattle.rules.specs.Refusals as Refusals
@@ -71,6 +72,21 @@ abbrev pub threeEnter : List Seven
 threeEnter =
     at 1 12 3 0 0 0 ∷ at 1 12 3 1 0 0 ∷ at 1 13 3 0 0 0 ∷ at 1 12 3 2 0 0 ∷ at 1 13 3 0 0 0 ∷ at 1 12 1 0 0 0 ∷ at 1 12 1 1 0 0 ∷ at 1 13 1 0 0 0 ∷ at 1 12 2 0 0 0 ∷ []
 
+-- one portion, into it a plain automatic signal, out of it a controlled one
+unfoldable pub plainText : List ℕ
+plainText = bytes "     1     2     0\n" ++ bytes "    99     0     4\n" ++ bytes "     0    99     1\n"
+
+abbrev pub onPlain : List Seven → List ℕ
+onPlain calls = answers (Plan.openBoard plainText) calls
+
+-- the paper of each gate, and the one that it replaced, after a list of calls
+abbrev pub papers : Booking → List ℕ
+papers x = x .paper .0 ∷ x .replaced .0 ∷ []
+
+unfoldable pub papersAfter : Board.Board → List Seven → List (List ℕ)
+papersAfter b [] = map papers (b .bookings)
+papersAfter b (s ∷ ss) = papersAfter (Step.after b s 55) ss
+
 pub record Cases : Type 0 where
   -- E1 to E6: the whole output for six calls, byte for byte
   pub journal : printed (Plan.openBoard planText)
@@ -109,7 +125,23 @@ pub record Cases : Type 0 where
   -- order 5: trains that enter as 3, 1, 2 are held as 1, 2, 3, and once 3 has left as 1, 2
   pub entered : trainsAfter (Plan.openBoard planText) threeEnter ≡ 1 ∷ 2 ∷ 3 ∷ []
   pub left : trainsAfter (Plan.openBoard planText) (threeEnter ++ (at 1 12 3 3 0 0 ∷ at 1 13 3 0 0 0 ∷ [])) ≡ 1 ∷ 2 ∷ []
+  -- order 6: a plain signal can be blocked only while it is out; BOOK IN is 25 while its block is on, and restores it once that is off
+  pub plain : onPlain
+      (at 1 4 0 0 0 0 ∷ at 1 16 0 5 0 0 ∷ at 1 4 0 0 0 0 ∷ at 1 17 0 5 1 0 ∷ at 1 5 0 0 0 0 ∷ at 1 17 0 5 1 0 ∷ at 1 4 0 0 0 0 ∷ [])
+      ≡ 10 ∷ 0 ∷ 0 ∷ 25 ∷ 0 ∷ 0 ∷ 10 ∷ []
+  -- order 6: it protects a TOA; UNBLOCK is 16, to restore it 25, a new paper serves; another paper is 5, before 25
+  pub protects : onPlain
+      (at 1 1 2 0 0 7 ∷ at 1 16 0 5 0 0 ∷ at 1 6 1 7 0 0 ∷ at 1 4 0 0 0 0 ∷ at 1 6 1 7 0 0 ∷ at 1 5 0 0 0 0 ∷ at 1 17 0 5 1 0 ∷ at 1 17 0 5 0 6 ∷ at 1 17 0 5 1 0 ∷ at 1 17 0 6 1 0 ∷ [])
+      ≡ 0 ∷ 0 ∷ 11 ∷ 0 ∷ 0 ∷ 16 ∷ 25 ∷ 0 ∷ 5 ∷ 25 ∷ []
+  -- order 6: out twice is 8, a gate of another kind 10; BOOK IN of it, or of one that isn't out, 5
+  pub out : onPlain (at 1 17 0 5 1 0 ∷ at 1 16 1 5 0 0 ∷ at 1 17 1 5 1 0 ∷ at 1 16 0 5 0 0 ∷ at 1 16 0 6 0 0 ∷ []) ≡ 5 ∷ 10 ∷ 5 ∷ 0 ∷ 8 ∷ []
+  -- order 6: certified 1 with a new paper, 0 with none and with the same, and 2 are 3
+  pub combinations : onPlain (at 1 16 0 5 0 0 ∷ at 1 17 0 5 1 6 ∷ at 1 17 0 5 0 0 ∷ at 1 17 0 5 0 5 ∷ at 1 17 0 5 2 0 ∷ at 1 17 0 5 0 9999 ∷ [])
+      ≡ 0 ∷ 3 ∷ 3 ∷ 3 ∷ 3 ∷ 0 ∷ []
+  -- order 6: out under 5, then 6, then 7: beside 7 stands 6; restored, nothing
+  pub renewed : papersAfter (Plan.openBoard plainText) (at 1 16 0 5 0 0 ∷ at 1 17 0 5 0 6 ∷ at 1 17 0 6 0 7 ∷ []) ≡ (7 ∷ 6 ∷ []) ∷ (0 ∷ 0 ∷ []) ∷ []
+  pub restored : papersAfter (Plan.openBoard plainText) (at 1 16 0 5 0 0 ∷ at 1 17 0 5 0 6 ∷ at 1 17 0 6 1 0 ∷ []) ≡ (0 ∷ 0 ∷ []) ∷ (0 ∷ 0 ∷ []) ∷ []
 
 pub cases : Cases
-unfolding planText printed answers trainsAfter bytes Search.any Search.first Search.keep Search.change Search.below Order.insertBy Column.digitsIn Column.digits Column.column Line.line Reading.sameText Reading.valueFrom Reading.isColumn Reading.readColumn Reading.firstColumn Reading.rowOf Sets.has Sets.setOf Sets.run Sets.insert Sets.remove Sets.shares Board.opened Board.closed Board.live Board.authority Board.onBoard Board.train Board.touches Board.touchesPortion Board.needs Call.isDay Call.isTime Call.minuteOf Call.inRange Call.inRanges Call.calls Call.entryOf Call.isCall Call.named Call.inForm Refusals.lowest Refusals.early Refusals.notLive Refusals.notOfficer Refusals.notToAgree Refusals.notToJoin Refusals.restsOn Refusals.notAtDistance Refusals.isE Refusals.isW Refusals.anyE Refusals.anyW Refusals.theW Refusals.noRoom Refusals.isOtherAt Refusals.taken Refusals.workedOn Refusals.isAt Refusals.notThere Refusals.barred Refusals.pilot Refusals.notPiloted Refusals.full Refusals.isOpen Refusals.unprotected Refusals.occupied Refusals.clashes Refusals.overlaps Refusals.inForceNeeds Refusals.stillNeeded Refusals.minute Refusals.notPendingLpa Refusals.tooSoon Refusals.inTerm Refusals.outsideTerm Refusals.own Refusals.conditions Refusals.answer Effects.effect Plan.planLine Plan.planNumber Plan.isHead Plan.isPlace Plan.isGate Plan.gateOn Plan.areGates Plan.gatesOn Plan.isPlan Plan.openBoard Journal.journalLine Journal.lineAfter Step.after Step.allotted
-cases = record { journal = refl; e7 = refl; e8 = refl; e9 = refl; e10 = refl; lpa = refl; notice = refl; week = refl; start = refl; end = refl; over = refl; nearest = refl; farthest = refl; too-near = refl; too-far = refl; another = refl; entered = refl; left = refl }
+unfolding planText plainText printed answers trainsAfter papersAfter bytes Search.any Search.first Search.keep Search.change Search.below Order.insertBy Column.digitsIn Column.digits Column.column Line.line Reading.sameText Reading.valueFrom Reading.isColumn Reading.readColumn Reading.firstColumn Reading.rowOf Sets.has Sets.setOf Sets.run Sets.insert Sets.remove Sets.shares Board.opened Board.closed Board.live Board.authority Board.onBoard Board.train Board.touches Board.touchesPortion Board.needs Board.isOut Board.canBeBlocked Call.isDay Call.isTime Call.minuteOf Call.inRange Call.inRanges Call.calls Call.entryOf Call.isCall Call.named Call.inForm Refusals.lowest Refusals.early Refusals.notLive Refusals.notOfficer Refusals.notToAgree Refusals.notToJoin Refusals.restsOn Refusals.notAtDistance Refusals.isE Refusals.isW Refusals.anyE Refusals.anyW Refusals.theW Refusals.noRoom Refusals.isOtherAt Refusals.taken Refusals.workedOn Refusals.isAt Refusals.notThere Refusals.barred Refusals.pilot Refusals.notPiloted Refusals.full Refusals.isOpen Refusals.unprotected Refusals.occupied Refusals.clashes Refusals.overlaps Refusals.inForceNeeds Refusals.stillNeeded Refusals.minute Refusals.notPendingLpa Refusals.tooSoon Refusals.inTerm Refusals.outsideTerm Refusals.notBooked Refusals.restoresBlocked Refusals.own Refusals.conditions Refusals.answer Effects.effect Plan.planLine Plan.planNumber Plan.isHead Plan.isPlace Plan.isGate Plan.gateOn Plan.areGates Plan.gatesOn Plan.isPlan Plan.openBoard Journal.journalLine Journal.lineAfter Step.after Step.allotted
+cases = record { journal = refl; e7 = refl; e8 = refl; e9 = refl; e10 = refl; lpa = refl; notice = refl; week = refl; start = refl; end = refl; over = refl; nearest = refl; farthest = refl; too-near = refl; too-far = refl; another = refl; entered = refl; left = refl; plain = refl; protects = refl; out = refl; combinations = refl; renewed = refl; restored = refl }

@@ -26,6 +26,7 @@ pub same-refl : (b : Board) → Same b b
 same-refl b = record {
   portions = refl;
   gates = refl;
+  bookings = refl;
   day = refl;
   time = refl;
   last = refl;
@@ -79,6 +80,7 @@ pub same-sym : (b c : Board) → Same b c → Same c b
 same-sym b c s = record {
   portions = sym (s .portions);
   gates = sym (s .gates);
+  bookings = sym (s .bookings);
   day = sym (s .day);
   time = sym (s .time);
   last = sym (s .last);
@@ -91,6 +93,7 @@ pub same-trans : (b c d : Board) → Same b c → Same c d → Same b d
 same-trans b c d s t = record {
   portions = s .portions ∙ t .portions;
   gates = s .gates ∙ t .gates;
+  bookings = s .bookings ∙ t .bookings;
   day = s .day ∙ t .day;
   time = s .time ∙ t .time;
   last = s .last ∙ t .last;
@@ -105,10 +108,11 @@ same-trans b c d s t = record {
 abbrev pub EachIn : {A : Type 0} → (A → A → Type 0) → List A → List A → Type 0
 EachIn {A} Like xs ys = (x : A) → Member x xs → (y : A) × Member y ys × Like x y
 
--- 01: "Two registers are equal when plan, last stamp, last number, blocks, live authorities and trains are equal as sets"
+-- 01: "Two registers are equal when plan, last stamp, last number, blocks, live authorities and trains are equal as sets"; and by order 6 bookings
 pub record SameSets (b c : Board) : Type 0 where
   pub portions : b .portions ≡ c .portions
   pub gates : b .gates ≡ c .gates
+  pub bookings : b .bookings ≡ c .bookings
   pub day : b .day ≡ c .day
   pub time : b .time ≡ c .time
   pub last : b .last ≡ c .last
@@ -129,6 +133,7 @@ pub same-sets : (b c : Board) → Same b c → SameSets b c
 same-sets b c s = record {
   portions = s .portions;
   gates = s .gates;
+  bookings = s .bookings;
   day = s .day;
   time = s .time;
   last = s .last;
@@ -177,6 +182,7 @@ pub sets-same : (b c : Board) → Once b → Once c → SameSets b c → Same b 
 sets-same b c o p s = record {
   portions = s .portions;
   gates = s .gates;
+  bookings = s .bookings;
   day = s .day;
   time = s .time;
   last = s .last;

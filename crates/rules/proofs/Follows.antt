@@ -5,6 +5,7 @@ use native.Mathlib.Decide.{ℕ-discrete}
 use mathlib.Core.Path.{_≡_, refl, sym, ap, subst, subst₂, _∙_}
 use mathlib.Core.Bool.{true, false, not, false≢true}
 use mathlib.Core.List.{List}
+use lib.ListN.{length}
 use borrow.Author.Tests.{eqb-true, eqb-false, eq-eqb, ne-eqb, not-true}
 use Rattle.lists.specs.Search.{first}
 use Rattle.lists.proofs.Search.{Member, first-found, kept, change-each}
@@ -12,9 +13,10 @@ use Rattle.lists.proofs.Distinct.{Taken, taken-change, taken-keep}
 use Rattle.portions.specs.Sets.{has}
 use Rattle.rules.specs.declared.Authority.{Authority}
 use Rattle.rules.specs.declared.Train.{Train}
+use Rattle.rules.specs.declared.Booking.{Booking}
 use Rattle.rules.specs.declared.Kind.{Kind}
 use Rattle.rules.specs.declared.Kind.the-variants.{Lpa, Toa, Twa}
-use Rattle.rules.specs.Board.{Board, noAuthority, noTrain, inForce, workersOn, authorityNo, trainNo, isAuthority, isTrain, isNotAuthority, isNotTrain, live, authority, onBoard, train, withAuthorities, withTrains, amended, ended, moved, gone}
+use Rattle.rules.specs.Board.{Board, noAuthority, noTrain, inForce, workersOn, authorityNo, trainNo, isAuthority, isTrain, isNotAuthority, isNotTrain, live, authority, onBoard, train, withAuthorities, withTrains, withBookings, withStamp, amended, ended, moved, gone}
 use Rattle.rules.specs.Reckoning as Reckoning
 use Rattle.rules.specs.Reckoning.{Reckoned, Position, put, asEnded}
 use Rattle.rules.specs.Claim.{In, Forced}
@@ -93,6 +95,8 @@ pub record Follows (b : Board) (r : Reckoning.Reckoning) : Type 0 where
   pub placed : AllPlaced (r .train) (b .trains)
   pub runs : (n : ℕ) → r .train n .onBoard ≡ true → Taken trainNo (b .trains) n
   pub blocks : (g : ℕ) → has g (b .blocks) ≡ true → r .blocked g ≡ true
+  pub gates : length (b .gates) ≤ 64
+  pub blocked : (g : ℕ) → r .blocked g ≡ true → (g < 64) × (has g (b .blocks) ≡ true)
 
 -- ---- what a search finds
 
@@ -195,6 +199,8 @@ module _ (b : Board) (r : Reckoning.Reckoning) (F : Follows b r) where
     placed = F .placed;
     runs = F .runs;
     blocks = F .blocks;
+    gates = F .gates;
+    blocked = F .blocked;
   }
 
   -- one authority changed in what isn't reckoned
@@ -219,6 +225,8 @@ module _ (b : Board) (r : Reckoning.Reckoning) (F : Follows b r) where
     placed = F .placed;
     runs = F .runs;
     blocks = F .blocks;
+    gates = F .gates;
+    blocked = F .blocked;
   }
 
   -- one authority ended
@@ -242,6 +250,8 @@ module _ (b : Board) (r : Reckoning.Reckoning) (F : Follows b r) where
     placed = F .placed;
     runs = F .runs;
     blocks = F .blocks;
+    gates = F .gates;
+    blocked = F .blocked;
   }
 
   -- other trains
@@ -257,4 +267,22 @@ module _ (b : Board) (r : Reckoning.Reckoning) (F : Follows b r) where
     placed = p;
     runs = q;
     blocks = F .blocks;
+    gates = F .gates;
+    blocked = F .blocked;
+  }
+
+  -- a stamp and bookings are not reckoned
+  pub follows-beside : (day time : ℕ) (bookings : List Booking) → Follows (withStamp day time (withBookings bookings b)) r
+  follows-beside day time bookings = record {
+    requests = F .requests;
+    portions = F .portions;
+    held = F .held;
+    rests = F .rests;
+    since = F .since;
+    there = F .there;
+    placed = F .placed;
+    runs = F .runs;
+    blocks = F .blocks;
+    gates = F .gates;
+    blocked = F .blocked;
   }

@@ -14,4 +14,5 @@ pub mod Equality
 pub mod Lines
 pub mod Traces
 pub mod Terms
+pub mod Bookings
 pub mod Sheets

@@ -18,12 +18,13 @@ use Rattle.lists.proofs.Distinct.{changed-number}
 use Rattle.lists.proofs.Order.{ascending-distinct, ascending-append, ascending-keep, ascending-change, ascending-insert, length-insert}
 use Rattle.portions.specs.Sets.{run}
 use Rattle.rules.specs.declared.Gate.{Gate}
+use Rattle.rules.specs.declared.Booking.{Booking}
 use Rattle.rules.specs.declared.Authority.{Authority}
 use Rattle.rules.specs.declared.Train.{Train}
 use Rattle.rules.specs.declared.Seven.{Seven}
 use Rattle.rules.specs.declared.Call.{Call}
-use Rattle.rules.specs.declared.Call.the-variants.{NoSuchCall, BadField, Request, Withdraw, Agree, Block, Unblock, Grant, Clear, Reoccupy, HandOver, Fulfil, Continue, Move, Passed, Term, Join}
-use Rattle.rules.specs.Board.{Board, opened, isOutside, gateAt, authorityNo, trainNo, isAuthority, isTrain, isNotAuthority, isNotTrain, authority, onBoard, train, withAuthorities, withTrains, amended, ended, moved, gone}
+use Rattle.rules.specs.declared.Call.the-variants.{NoSuchCall, BadField, Request, Withdraw, Agree, Block, Unblock, Grant, Clear, Reoccupy, HandOver, Fulfil, Continue, Move, Passed, Term, Join, BookOut, BookIn}
+use Rattle.rules.specs.Board.{Board, opened, isOutside, gateAt, authorityNo, trainNo, isAuthority, isTrain, isNotAuthority, isNotTrain, authority, onBoard, train, withAuthorities, withTrains, withBlocks, withBookings, amended, ended, moved, gone}
 use Rattle.rules.specs.Call.{minuteOf, named}
 use Rattle.rules.specs.Refusals.{own, full, noRoom, notThere, answer}
 use Rattle.rules.specs.Plan.{openBoard}
@@ -87,6 +88,7 @@ once-request : (b : Board) (o : Once b) (a : Authority) → full b ≡ false →
     → Once (record {
       portions = b .portions;
       gates = b .gates;
+      bookings = b .bookings;
       day = b .day;
       time = b .time;
       last = suc (b .last);
@@ -125,8 +127,9 @@ once-passed b o n false = once-change-trains b o (isTrain n) withRearIn (λ t. r
 
 -- ---- any accepted call
 
-once-blocks : (b : Board) (o : Once b) (blocks : ℕ) → Once (Rattle.rules.specs.Board.withBlocks blocks b)
-once-blocks b o blocks = record { authorities = o .authorities; trains = o .trains; live = o .live; running = o .running; last = o .last; allotted = o .allotted }
+-- blocks or bookings changed
+once-beside : (b : Board) (o : Once b) (blocks : ℕ) (bookings : List Booking) → Once (withBookings bookings (withBlocks blocks b))
+once-beside b o blocks bookings = record { authorities = o .authorities; trains = o .trains; live = o .live; running = o .running; last = o .last; allotted = o .allotted }
 
 once-effect : (b : Board) (o : Once b) (s : Seven) (c : Call) → Accepted b s c → Once (effect b c)
 unfolding effect own conditionAt
@@ -135,8 +138,8 @@ once-effect b o s BadField k = o
 once-effect b o s (Request kind first last officer) k = once-request b o (requested (suc (b .last)) kind (run first last) officer) (k .ok 9) refl
 once-effect b o s (Withdraw n officer) k = once-keep b o (isNotAuthority (n .0))
 once-effect b o s (Agree toa twa officer) k = once-change b o (isAuthority (twa .0)) (withAgreed toa) (λ a. refl)
-once-effect b o s (Block g) k = once-blocks b o _
-once-effect b o s (Unblock g) k = once-blocks b o _
+once-effect b o s (Block g) k = once-beside b o _ (b .bookings)
+once-effect b o s (Unblock g) k = once-beside b o _ (b .bookings)
 once-effect b o s (Grant n officer) k = once-change b o (isAuthority (n .0)) granted (λ a. refl)
 once-effect b o s (Clear n officer) k = once-change b o (isAuthority (n .0)) (withSite false) (λ a. refl)
 once-effect b o s (Reoccupy n officer) k = once-change b o (isAuthority (n .0)) (withSite true) (λ a. refl)
@@ -154,6 +157,8 @@ once-effect b o s (Move t g n officer) k =
 once-effect b o s (Passed t) k = once-passed b o (t .0) (isOutside (train b (t .0) .head))
 once-effect b o s (Term n day time length) k = once-change b o (isAuthority (n .0)) (withTerm (minuteOf day time) length) (λ a. refl)
 once-effect b o s (Join twa toa officer distance) k = once-change b o (isAuthority (toa .0)) (withAgreed twa) (λ a. refl)
+once-effect b o s (BookOut g paper) k = once-beside b o (b .blocks) _
+once-effect b o s (BookIn g paper certified new) k = once-beside b o (b .blocks) _
 
 once-step : (b : Board) (s : Seven) (room : ℕ) → Once b → (z : Bool) → eqb (answer b s room) 0 ≡ z
     → Once (cond z (Rattle.rules.specs.Board.withStamp (s .day) (s .time) (effect b (named s))) b)

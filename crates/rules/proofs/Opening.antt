@@ -12,7 +12,7 @@ use Rattle.lists.proofs.Tests.{told}
 use Rattle.rules.specs.declared.Gate.{Gate}
 use Rattle.rules.specs.declared.Seven.{Seven}
 use Rattle.rules.specs.declared.Call.{Call}
-use Rattle.rules.specs.declared.Call.the-variants.{NoSuchCall, BadField, Request, Withdraw, Agree, Block, Unblock, Grant, Clear, Reoccupy, HandOver, Fulfil, Continue, Move, Passed, Term, Join}
+use Rattle.rules.specs.declared.Call.the-variants.{NoSuchCall, BadField, Request, Withdraw, Agree, Block, Unblock, Grant, Clear, Reoccupy, HandOver, Fulfil, Continue, Move, Passed, Term, Join, BookOut, BookIn}
 use Rattle.rules.specs.Board.{Board, opened, closed, live, onBoard}
 use Rattle.rules.specs.Call.{named}
 use Rattle.rules.specs.Refusals.{notLive, own, answer}
@@ -79,6 +79,8 @@ closed-refuses s (Move t g n officer) k = omega (arith, k .ranges)
 closed-refuses s (Passed t) k = false≢true (sym (k .ok 17))
 closed-refuses s (Term n day time length) k = false≢true (sym (k .ok 5))
 closed-refuses s (Join twa toa officer distance) k = false≢true (sym (k .ok 5))
+closed-refuses s (BookOut g paper) k = omega (arith, k .ranges .0)
+closed-refuses s (BookIn g paper certified new) k = omega (arith, k .ranges .0)
 
 -- THEOREM: the closed board accepts no call, and so stays the closed board
 pub closed-accepts-none : (s : Seven) (room : ℕ) → answer closed s room ≡ 0 → ⊥

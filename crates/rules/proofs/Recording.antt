@@ -1,20 +1,22 @@
--- Demand 3, call by call: the calls that put nothing more in force (REQUEST, WITHDRAW, HAND OVER, TERM, AGREE, JOIN, BLOCK,
--- UNBLOCK, CLEAR, FULFIL). Each keeps two things: the board follows the reckoning, and the reckoning is safe. Assumes nothing.
-use Prim.Native.Nat.{ℕ, suc, _≤_}
+-- Demand 3, call by call: the calls that put nothing more in force (REQUEST, WITHDRAW, HAND OVER, TERM, BOOK OUT, BOOK IN,
+-- AGREE, JOIN, BLOCK, UNBLOCK, CLEAR, FULFIL). Each keeps two things: the board follows the reckoning, and the reckoning is safe. Assumes nothing.
+use Prim.Native.Nat.{ℕ, suc, _≤_, _<_}
 use native.Mathlib.Omega.{arith}
 use mathlib.Core.Path.{_≡_, refl, sym, ap, subst, _∙_}
 use mathlib.Core.Logic.{_⊎_, inl, inr, ⊎-elim}
 use mathlib.Core.Bool.{Bool, true, false, not, _&&_, false≢true, true≢false}
+use lib.ListN.{set}
 use mathlib.Core.List.{[], _∷_, Memᴰ·append-left, List·Memᴰ·append-cases, List·Memᴰ·eq-of-singleton}
-use lib.Dec.{eqb, ltb}
-use borrow.Author.Tests.{eqb-true, eqb-false}
-use Rattle.lists.proofs.Tests.{truth, told, shown, not-no, or-cases, and-r}
+use lib.Dec.{eqb}
+use borrow.Author.Tests.{eq-eqb, ne-eqb}
+use Rattle.lists.proofs.Tests.{truth, told, shown, not-no, or-yes-r}
 use Rattle.lists.proofs.Search.{Member, any-no, change-each}
 use Rattle.lists.proofs.Distinct.{Taken, taken-change}
-use Rattle.portions.specs.Sets.{has, run, insert, remove, isOrIn, isNotAndIn}
-use Rattle.portions.proofs.Laws.{has-setOf, run-in, in-run}
+use Rattle.portions.specs.Sets.{has, run, insert, remove}
+use Rattle.portions.proofs.Laws.{run-in, in-run, insert-below, remove-below, in-insert, in-remove}
 use Rattle.rules.specs.declared.AuthorityNo.{AuthorityNo}
 use Rattle.rules.specs.declared.GateNo.{GateNo}
+use Rattle.rules.specs.declared.PaperNo.{PaperNo}
 use Rattle.rules.specs.declared.Kind.{Kind}
 use Rattle.rules.specs.declared.Kind.the-variants.{Lpa, Toa, Twa}
 use Rattle.rules.specs.declared.Gate.{Gate}
@@ -22,17 +24,17 @@ use Rattle.rules.specs.declared.Authority.{Authority}
 use Rattle.rules.specs.declared.Train.{Train}
 use Rattle.rules.specs.declared.Seven.{Seven}
 use Rattle.rules.specs.declared.Call.{Call}
-use Rattle.rules.specs.declared.Call.the-variants.{Request, Withdraw, Agree, Block, Unblock, Clear, HandOver, Fulfil, Term, Join}
+use Rattle.rules.specs.declared.Call.the-variants.{Request, Withdraw, Agree, Block, Unblock, Clear, HandOver, Fulfil, Term, Join, BookOut, BookIn}
 use Rattle.rules.specs.Board.{Board, gateAt, isToa, isTwa, inForce, workersOn, authorityNo, trainNo, live, authority, needs, withAuthorities, amended, ended}
 use Rattle.rules.specs.Refusals.{notLive, notToAgree, notToJoin, stillNeeded, inForceNeeds, own}
-use Rattle.rules.specs.Effects.{requested, withSite, withOfficer, withAgreed, withTerm, withAuthority, isWith, freed, effect}
+use Rattle.rules.specs.Effects.{requested, bookedOut, bookedIn, withSite, withOfficer, withAgreed, withTerm, withAuthority, isWith, freed, effect}
 use Rattle.rules.specs.Call.{authorityOf, minuteOf}
 use Rattle.rules.specs.Reckoning as Reckoning
 use Rattle.rules.specs.Reckoning.{Reckoned, put, asRequested, asEnded, asSited, asAgreed, asJoined, reckon}
 use Rattle.rules.specs.Claim.{In, Forced, Safe}
 use Rattle.rules.proofs.Answers.{conditionAt}
 use Rattle.rules.proofs.Accepted.{Accepted}
-use Rattle.rules.proofs.Follows.{put-same, put-other, put-all, Held, Placed, giver, Rests, Follows, reckonedAs, authority-there, ended-member, there-ended, follows-amended, follows-unreckoned, follows-ended, follows-trains}
+use Rattle.rules.proofs.Follows.{put-same, put-other, put-all, Held, Placed, giver, Rests, Follows, reckonedAs, authority-there, ended-member, there-ended, follows-amended, follows-unreckoned, follows-ended, follows-trains, follows-beside}
 use Rattle.rules.proofs.Claims.{quiet-same, small-same, safe-less, safe-quieter}
 
 pub toa-kind : (k : Kind) → isToa k ≡ true → k ≡ Toa
@@ -118,6 +120,8 @@ module _ (b : Board) (r : Reckoning.Reckoning) (F : Follows b r) (S : Safe (b .g
           placed = F .placed;
           runs = F .runs;
           blocks = F .blocks;
+          gates = F .gates;
+          blocked = F .blocked;
         };
     safe = safe-quieter (b .gates) r S n n x (λ f. absurd (unused f));
   }
@@ -182,7 +186,7 @@ module _ (b : Board) (r : Reckoning.Reckoning) (F : Follows b r) (S : Safe (b .g
           let t = F .rests a m z in
           (ap (λ (y : Reckoned). y .kind) (put-other n x (r .authority) (a .agreed .0) (λ e. omega (arith, t .1))) ∙ t .0, omega (arith, t .1))
 
-  -- ---- WITHDRAW, HAND OVER and TERM: nothing is reckoned
+  -- ---- WITHDRAW, HAND OVER, TERM, BOOK OUT and BOOK IN: nothing is reckoned
 
   pub keeps-withdraw : (n : AuthorityNo) (officer : ℕ) → Accepted b s (Withdraw n officer) → Keeps b r (Withdraw n officer)
   unfolding effect reckon own conditionAt
@@ -200,6 +204,8 @@ module _ (b : Board) (r : Reckoning.Reckoning) (F : Follows b r) (S : Safe (b .g
           placed = F .placed;
           runs = F .runs;
           blocks = F .blocks;
+          gates = F .gates;
+          blocked = F .blocked;
         };
     safe = S;
   }
@@ -219,6 +225,17 @@ module _ (b : Board) (r : Reckoning.Reckoning) (F : Follows b r) (S : Safe (b .g
     follows =
         follows-unreckoned b r F (n .0) (withTerm (minuteOf day time) length) (λ a. refl) (λ a. refl) (λ a. refl)
         (λ a x h. held-anew x x a (withTerm (minuteOf day time) length a) h refl refl refl refl refl refl (h .force) (h .site) (h .agreed) (h .joined));
+    safe = S;
+  }
+
+  pub keeps-bookOut : (g : GateNo) (paper : PaperNo) → Keeps b r (BookOut g paper)
+  unfolding effect reckon
+  keeps-bookOut g paper = record { follows = follows-beside b r F (b .day) (b .time) (set (b .bookings) (g .0) (bookedOut paper)); safe = S }
+
+  pub keeps-bookIn : (g : GateNo) (paper : PaperNo) (certified : Bool) (new : PaperNo) → Keeps b r (BookIn g paper certified new)
+  unfolding effect reckon
+  keeps-bookIn g paper certified new = record {
+    follows = follows-beside b r F (b .day) (b .time) (set (b .bookings) (g .0) (bookedIn paper certified new));
     safe = S;
   }
 
@@ -315,22 +332,9 @@ module _ (b : Board) (r : Reckoning.Reckoning) (F : Follows b r) (S : Safe (b .g
 
   -- ---- BLOCK and UNBLOCK
 
-  -- a set with g in it has g and what it had; one without g has what it had but g
-  in-insert : (g h set : ℕ) → has h (insert g set) ≡ true → (h ≡ g) ⊎ (has h set ≡ true)
-  unfolding insert
-  in-insert g h set e =
-      ⊎-elim (λ k. inl (eqb-true h g k)) inr
-      (or-cases (eqb h g) (has h set) (and-r (ltb h 64) (isOrIn g set h) (sym (has-setOf 64 (isOrIn g set) h) ∙ e)))
-
-  in-remove : (g h set : ℕ) → has h (remove g set) ≡ true → (h ≡ g → ⊥) × (has h set ≡ true)
-  unfolding remove
-  in-remove g h set e =
-      let k : (ltb h 64 && isNotAndIn g set h) ≡ true = sym (has-setOf 64 (isNotAndIn g set) h) ∙ e in
-      (eqb-false h g (search (told, k)), search (told, k))
-
-  pub keeps-block : (g : GateNo) → Keeps b r (Block g)
+  pub keeps-block : (g : GateNo) → Accepted b s (Block g) → Keeps b r (Block g)
   unfolding effect reckon
-  keeps-block g = record {
+  keeps-block g ok = record {
     follows =
         record {
           requests = F .requests;
@@ -343,7 +347,12 @@ module _ (b : Board) (r : Reckoning.Reckoning) (F : Follows b r) (S : Safe (b .g
           runs = F .runs;
           blocks =
               λ h e. ⊎-elim (λ (q : h ≡ g .0). ap (put (g .0) true (r .blocked)) q ∙ put-same (g .0) true (r .blocked)) (λ k. more h (F .blocks h k))
-              (in-insert (g .0) h (b .blocks) e);
+              (in-insert (g .0) (b .blocks) h e);
+          gates = F .gates;
+          blocked =
+              put-all (λ (h : ℕ) (y : Bool). y ≡ true → (h < 64) × (has h (insert (g .0) (b .blocks)) ≡ true)) (g .0) true (r .blocked)
+              (λ e. let l : g .0 < 64 = omega (arith, ok .ranges, F .gates) in (l, insert-below (g .0) (b .blocks) (g .0) l ∙ rw (eq-eqb (g .0) (g .0) refl)))
+              (λ h ne e. let k = F .blocked h e in (k .0, insert-below (g .0) (b .blocks) h (k .0) ∙ or-yes-r (eqb h (g .0)) (has h (b .blocks)) (k .1)));
         };
     safe =
         safe-less (b .gates) (Reckoning.withBlocked (put (g .0) true (r .blocked)) r) r
@@ -366,7 +375,12 @@ module _ (b : Board) (r : Reckoning.Reckoning) (F : Follows b r) (S : Safe (b .g
           there = F .there;
           placed = F .placed;
           runs = F .runs;
-          blocks = λ h e. let k = in-remove (g .0) h (b .blocks) e in put-other (g .0) false (r .blocked) h (k .0) ∙ F .blocks h (k .1);
+          blocks = λ h e. let k = in-remove (g .0) (b .blocks) h e in put-other (g .0) false (r .blocked) h (k .0) ∙ F .blocks h (k .1);
+          gates = F .gates;
+          blocked =
+              put-all (λ (h : ℕ) (y : Bool). y ≡ true → (h < 64) × (has h (remove (g .0) (b .blocks)) ≡ true)) (g .0) false (r .blocked)
+              (λ e. absurd (false≢true e))
+              (λ h ne e. let k = F .blocked h e in (k .0, remove-below (g .0) (b .blocks) h (k .0) ∙ rw (ne-eqb h (g .0) ne) (k .1)));
         };
     safe =
         record {

@@ -86,6 +86,7 @@ abbrev lastNight : Board
 lastNight = record {
   portions = 64;
   gates = [];
+  bookings = [];
   day = 12;
   time = 555;
   last = 9999;

@@ -16,7 +16,7 @@ use Rattle.rules.specs.declared.Gate.{Gate}
 use Rattle.rules.specs.declared.Authority.{Authority}
 use Rattle.rules.specs.declared.Seven.{Seven}
 use Rattle.rules.specs.declared.Call.{Call}
-use Rattle.rules.specs.declared.Call.the-variants.{NoSuchCall, BadField, Request, Withdraw, Agree, Block, Unblock, Grant, Clear, Reoccupy, HandOver, Fulfil, Continue, Move, Passed, Term, Join}
+use Rattle.rules.specs.declared.Call.the-variants.{NoSuchCall, BadField, Request, Withdraw, Agree, Block, Unblock, Grant, Clear, Reoccupy, HandOver, Fulfil, Continue, Move, Passed, Term, Join, BookOut, BookIn}
 use Rattle.rules.specs.Board.{Board, opened, inForce, hasTerm, authorityNo, isAuthority, isNotAuthority, live, authority, withStamp, ended}
 use Rattle.rules.specs.Call.{isDay, isTime, minuteOf, named}
 use Rattle.rules.specs.Refusals.{notLive, own, answer}
@@ -46,6 +46,8 @@ ends n (Move t g m officer) = false
 ends n (Passed t) = false
 ends n (Term m day time length) = false
 ends n (Join twa toa officer distance) = false
+ends n (BookOut g paper) = false
+ends n (BookIn g paper certified new) = false
 
 -- the call was accepted and ended authority n
 unfoldable pub ended-by : ℕ → Answered → Bool
@@ -117,6 +119,8 @@ module _ (b : Board) (o : Once b) (s : Seven) where
       changed-stays (new .0) granted (ended (old .0) (b .authorities)) x (ended-stays (old .0) (b .authorities) x m e) (λ i. granted-stays x)
   effect-stays (Move t g n officer) k x m e = (x, m, as-it-was x)
   effect-stays (Passed t) k x m e = (x, m, as-it-was x)
+  effect-stays (BookOut g paper) k x m e = (x, m, as-it-was x)
+  effect-stays (BookIn g paper certified new) k x m e = (x, m, as-it-was x)
   effect-stays (Join twa toa officer distance) k x m e =
       changed-stays (toa .0) (withAgreed twa) (b .authorities) x m (λ i. alike x (withAgreed twa x) refl refl refl refl)
   -- 8: the authority that TERM names has no term
@@ -202,6 +206,8 @@ starts-effect b s (Continue old new officerOld officerNew) k S =
     (λ a m. S a (kept (isNotAuthority (old .0)) (b .authorities) a m .member))
 starts-effect b s (Move t g n officer) k S = S
 starts-effect b s (Passed t) k S = S
+starts-effect b s (BookOut g paper) k S = S
+starts-effect b s (BookIn g paper certified new) k S = S
 starts-effect b s (Join twa toa officer distance) k S = days-changed (isAuthority (toa .0)) (withAgreed twa) (b .authorities) (λ a. refl) S
 starts-effect b s (Term n day time length) k S =
     change-each InDays (isAuthority (n .0)) (withTerm (minuteOf day time) length) (b .authorities) (λ x m e. S x m)

@@ -1,10 +1,10 @@
--- What the register holds (01, "Track and gates" and "What the register holds"; 02, order 1: terms, order 4: a TOA's agreement, order 5: the order).
--- Assumes nothing.
+-- What the register holds (01, "Track and gates" and "What the register holds"; 02, order 1: terms, order 4: a TOA's agreement, order 5: the order,
+-- order 6: bookings). Assumes nothing.
 use Prim.Native.Nat.{ℕ}
 use mathlib.Core.Path.{_≡_}
 use mathlib.Core.Bool.{Bool, true, false, not, _&&_, _||_}
 use mathlib.Core.List.{List, [], _∷_}
-use lib.ListN.{getD}
+use lib.ListN.{length, replicate, getD}
 use lib.Dec.{eqb}
 use Rattle.lists.specs.Search.{any, first, keep, change}
 use Rattle.lists.specs.Prefix.{prefix}
@@ -12,18 +12,21 @@ use Rattle.portions.specs.Sets.{has}
 use Rattle.rules.specs.declared.Kind.{Kind}
 use Rattle.rules.specs.declared.Kind.the-variants.{Lpa, Toa, Twa}
 use Rattle.rules.specs.declared.Gate.{Gate}
+use Rattle.rules.specs.declared.Booking.{Booking}
 use Rattle.rules.specs.declared.Authority.{Authority}
 use Rattle.rules.specs.declared.Train.{Train}
 use Rattle.rules.specs.declared.Register.{Register}
 
 -- ---- what a register stands for
 
--- A board: P portions, the gates in order, the last stamp, the last number, the blocked gates as a set, live authorities and trains.
+-- A board: P portions, the gates in order and the booking of each (order 6), the last stamp, the last number, the blocked gates as a set, live
+-- authorities and trains.
 -- 02, order 5: "Hold live authorities and trains by ascending number after every call": `Once`, specs/Step.antt.
 -- The agreed TOA of a TWA in force is free in 01, and the joined TWA of a TOA in force in 02; here each stays as recorded until the TWA or TOA ends.
 pub record Board : Type 0 where
   pub portions : ℕ
   pub gates : List Gate
+  pub bookings : List Booking
   pub day : ℕ
   pub time : ℕ
   pub last : ℕ
@@ -36,6 +39,7 @@ unfoldable pub boardOf : Register → Board
 boardOf r = record {
   portions = r .portions;
   gates = prefix (r .«gate_count») (r .gates);
+  bookings = prefix (r .«gate_count») (r .bookings);
   day = r .day;
   time = r .time;
   last = r .last;
@@ -44,11 +48,16 @@ boardOf r = record {
   trains = prefix (r .running) (r .trains);
 }
 
--- "A freshly opened board has no authority, no train, no block, last stamp day 0 time 0, last number 0."
+-- the booking of a gate that isn't booked out of use: a paper is 1 to 9999, so that the paper 0 stands for none
+abbrev pub noBooking : Booking
+noBooking = record { paper = record { 0 = 0 }; replaced = record { 0 = 0 } }
+
+-- "A freshly opened board has no authority, no train, no block, last stamp day 0 time 0, last number 0.", and no gate of it is out
 unfoldable pub opened : ℕ → List Gate → Board
 opened portions gates = record {
   portions = portions;
   gates = gates;
+  bookings = replicate (length gates) noBooking;
   day = 0;
   time = 0;
   last = 0;
@@ -90,9 +99,25 @@ noAuthority = record {
 abbrev pub noTrain : Train
 noTrain = record { number = record { 0 = 0 }; head = 0; rear = 0; with = record { 0 = 0 } }
 
--- the gate with that number
+-- the gate with that number, and its booking
 abbrev pub gateAt : List Gate → ℕ → Gate
 gateAt gates g = getD gates g noGate
+
+abbrev pub bookingAt : List Booking → ℕ → Booking
+bookingAt bookings g = getD bookings g noBooking
+
+-- the gate is booked out of use (02, order 6)
+unfoldable pub isOut : Board → ℕ → Bool
+isOut b g = not (eqb (bookingAt (b .bookings) g .paper .0) 0)
+
+-- "Kinds of gate: [..] 4 plain automatic signal."
+abbrev pub isPlain : Gate → Bool
+isPlain gate = eqb (gate .kind) 4
+
+-- "Kinds 1 to 3 can be blocked, kind 4 can't."; 02, order 6: "A plain automatic signal may protect work while it is booked out of use. [..] "Can be
+-- blocked", and 10 at BLOCK, now follow the booking."
+unfoldable pub canBeBlocked : Board → ℕ → Bool
+canBeBlocked b g = not (isPlain (gateAt (b .gates) g)) || isOut b g
 
 -- ---- authorities and trains
 
@@ -177,6 +202,7 @@ abbrev pub withAuthorities : List Authority → Board → Board
 withAuthorities xs b = record {
   portions = b .portions;
   gates = b .gates;
+  bookings = b .bookings;
   day = b .day;
   time = b .time;
   last = b .last;
@@ -189,6 +215,7 @@ abbrev pub withTrains : List Train → Board → Board
 withTrains ts b = record {
   portions = b .portions;
   gates = b .gates;
+  bookings = b .bookings;
   day = b .day;
   time = b .time;
   last = b .last;
@@ -201,6 +228,7 @@ abbrev pub withBlocks : ℕ → Board → Board
 withBlocks blocks b = record {
   portions = b .portions;
   gates = b .gates;
+  bookings = b .bookings;
   day = b .day;
   time = b .time;
   last = b .last;
@@ -209,10 +237,24 @@ withBlocks blocks b = record {
   trains = b .trains;
 }
 
+abbrev pub withBookings : List Booking → Board → Board
+withBookings bookings b = record {
+  portions = b .portions;
+  gates = b .gates;
+  bookings = bookings;
+  day = b .day;
+  time = b .time;
+  last = b .last;
+  blocks = b .blocks;
+  authorities = b .authorities;
+  trains = b .trains;
+}
+
 abbrev pub withLast : ℕ → Board → Board
 withLast n b = record {
   portions = b .portions;
   gates = b .gates;
+  bookings = b .bookings;
   day = b .day;
   time = b .time;
   last = n;
@@ -225,6 +267,7 @@ abbrev pub withStamp : ℕ → ℕ → Board → Board
 withStamp day time b = record {
   portions = b .portions;
   gates = b .gates;
+  bookings = b .bookings;
   day = day;
   time = time;
   last = b .last;
@@ -276,10 +319,11 @@ InOrder Like (x ∷ xs) [] = ⊥
 InOrder Like (x ∷ xs) (y ∷ ys) = Like x y × InOrder Like xs ys
 
 -- "Two registers are equal when plan, last stamp, last number, blocks, live authorities and trains are equal as sets"; 02, order 5: "The comparison
--- with document 01's register includes that order from now on.", so place for place
+-- with document 01's register includes that order from now on.", so place for place; order 6: "Bookings count when registers are compared."
 pub record Same (b c : Board) : Type 0 where
   pub portions : b .portions ≡ c .portions
   pub gates : b .gates ≡ c .gates
+  pub bookings : b .bookings ≡ c .bookings
   pub day : b .day ≡ c .day
   pub time : b .time ≡ c .time
   pub last : b .last ≡ c .last

@@ -1,20 +1,24 @@
--- What an accepted call does (01, "The thirteen calls"; 02, order 1: TERM, order 4: JOIN, order 5: the order). Nothing else changes. Assumes nothing.
+-- What an accepted call does (01, "The thirteen calls"; 02, order 1: TERM, order 4: JOIN, order 5: the order, order 6: BOOK OUT and
+-- BOOK IN). Nothing else changes. Assumes nothing.
 use Prim.Native.Nat.{ℕ, suc}
 use mathlib.Core.Bool.{Bool, true, false, cond}
 use mathlib.Core.List.{List, [], _∷_, _++_}
+use lib.ListN.{set}
 use lib.Dec.{eqb}
 use Rattle.lists.specs.Search.{change}
 use Rattle.lists.specs.Order.{insertBy}
 use Rattle.portions.specs.Sets.{has, run, insert, remove}
 use Rattle.rules.specs.declared.AuthorityNo.{AuthorityNo}
 use Rattle.rules.specs.declared.TrainNo.{TrainNo}
+use Rattle.rules.specs.declared.PaperNo.{PaperNo}
+use Rattle.rules.specs.declared.Booking.{Booking}
 use Rattle.rules.specs.declared.Kind.{Kind}
 use Rattle.rules.specs.declared.Authority.{Authority}
 use Rattle.rules.specs.declared.Train.{Train}
 use Rattle.rules.specs.declared.Call.{Call}
-use Rattle.rules.specs.declared.Call.the-variants.{NoSuchCall, BadField, Request, Withdraw, Agree, Block, Unblock, Grant, Clear, Reoccupy, HandOver, Fulfil, Continue, Move, Passed, Term, Join}
-use Rattle.rules.specs.Board.{Board, isOutside, gateAt, inForce, workersOn, trainNo, authority, train, withAuthorities, withTrains, withBlocks, withLast, amended, ended, moved, gone}
-use Rattle.rules.specs.Call.{authorityOf, minuteOf}
+use Rattle.rules.specs.declared.Call.the-variants.{NoSuchCall, BadField, Request, Withdraw, Agree, Block, Unblock, Grant, Clear, Reoccupy, HandOver, Fulfil, Continue, Move, Passed, Term, Join, BookOut, BookIn}
+use Rattle.rules.specs.Board.{Board, isOutside, noBooking, gateAt, inForce, workersOn, trainNo, authority, train, withAuthorities, withTrains, withBlocks, withBookings, withLast, amended, ended, moved, gone}
+use Rattle.rules.specs.Call.{authorityOf, paperOf, minuteOf}
 
 -- ---- what becomes of one authority
 
@@ -134,6 +138,17 @@ continuedWith new limits t = withAuthority (cond (has (t .head) limits) new (aut
 abbrev pub continued : ℕ → AuthorityNo → ℕ → List Train → List Train
 continued old new limits ts = change (isWith old) (continuedWith new limits) ts
 
+-- ---- what becomes of one booking
+
+-- BOOK OUT: the gate is out under the paper, which replaces none
+abbrev pub bookedOut : PaperNo → Booking
+bookedOut paper = record { paper = paper; replaced = paperOf 0 }
+
+-- BOOK IN: "Certified 1 with new paper 0 restores the gate. Certified 0 with a new paper [..] keeps it out under the new one, with the number of the
+-- paper just replaced beside it."
+abbrev pub bookedIn : PaperNo → Bool → PaperNo → Booking
+bookedIn paper certified new = cond certified noBooking (record { paper = new; replaced = paper })
+
 -- ---- each call
 
 unfoldable pub effect : Board → Call → Board
@@ -180,3 +195,6 @@ effect b (Passed t) =
 effect b (Term n day time length) = withAuthorities (amended (n .0) (withTerm (minuteOf day time) length) (b .authorities)) b
 -- JOIN: "The TOA records the TWA"
 effect b (Join twa toa officer distance) = withAuthorities (amended (toa .0) (withAgreed twa) (b .authorities)) b
+-- BOOK OUT, BOOK IN: of that gate alone
+effect b (BookOut g paper) = withBookings (set (b .bookings) (g .0) (bookedOut paper)) b
+effect b (BookIn g paper certified new) = withBookings (set (b .bookings) (g .0) (bookedIn paper certified new)) b

@@ -8,7 +8,7 @@ use Rattle.rules.specs.declared.Kind.{Kind}
 use Rattle.rules.specs.declared.Kind.the-variants.{Lpa}
 use Rattle.rules.specs.declared.Gate.{Gate}
 use Rattle.rules.specs.declared.Call.{Call}
-use Rattle.rules.specs.declared.Call.the-variants.{NoSuchCall, BadField, Request, Withdraw, Agree, Block, Unblock, Grant, Clear, Reoccupy, HandOver, Fulfil, Continue, Move, Passed, Term, Join}
+use Rattle.rules.specs.declared.Call.the-variants.{NoSuchCall, BadField, Request, Withdraw, Agree, Block, Unblock, Grant, Clear, Reoccupy, HandOver, Fulfil, Continue, Move, Passed, Term, Join, BookOut, BookIn}
 use Rattle.rules.specs.Board.{isOutside, gateAt}
 use Rattle.rules.specs.Call.{between, named}
 use Rattle.rules.specs.Step.{Answered}
@@ -216,6 +216,9 @@ reckon gates r (Passed t) = withTrains (put (t .0) (asPassed (r .train (t .0))) 
 reckon gates r (Term n day time length) = r
 -- JOIN (02, order 4): of the TOA, as AGREE is of the TWA
 reckon gates r (Join twa toa officer distance) = withAuthorities (put (toa .0) (asJoined (twa .0) (r .authority (toa .0))) (r .authority)) r
+-- BOOK OUT and BOOK IN (02, order 6) change nothing here: "A gate is blocked if it has had a BLOCK and no UNBLOCK since.", whatever its booking
+reckon gates r (BookOut g paper) = r
+reckon gates r (BookIn g paper certified new) = r
 
 -- ---- "The reckoning of demand 3 reads the list in order: each call's seven numbers and its answer"
 

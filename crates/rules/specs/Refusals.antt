@@ -1,4 +1,5 @@
--- The conditions for refusal of each call, and its answer (01, "The thirteen calls" and "Refusal words"; 02, orders 1 and 4). Assumes nothing.
+-- The conditions for refusal of each call, and its answer (01, "The thirteen calls" and "Refusal words"; 02, orders 1, 4 and 6). Assumes
+-- nothing.
 use Prim.Native.Nat.{ℕ, _+_}
 use mathlib.Core.Bool.{Bool, cond, not, _&&_, _||_}
 use mathlib.Core.List.{List, [], _∷_}
@@ -11,8 +12,8 @@ use Rattle.rules.specs.declared.Authority.{Authority}
 use Rattle.rules.specs.declared.Train.{Train}
 use Rattle.rules.specs.declared.Seven.{Seven}
 use Rattle.rules.specs.declared.Call.{Call}
-use Rattle.rules.specs.declared.Call.the-variants.{NoSuchCall, BadField, Request, Withdraw, Agree, Block, Unblock, Grant, Clear, Reoccupy, HandOver, Fulfil, Continue, Move, Passed, Term, Join}
-use Rattle.rules.specs.Board.{Board, isOutside, noAuthority, gateAt, exclusive, isLpa, isToa, isTwa, inForce, workersOn, hasTerm, authorityNo, isTrain, live, authority, onBoard, train, touches, touchesPortion, needs}
+use Rattle.rules.specs.declared.Call.the-variants.{NoSuchCall, BadField, Request, Withdraw, Agree, Block, Unblock, Grant, Clear, Reoccupy, HandOver, Fulfil, Continue, Move, Passed, Term, Join, BookOut, BookIn}
+use Rattle.rules.specs.Board.{Board, isOutside, noAuthority, gateAt, bookingAt, isOut, isPlain, canBeBlocked, exclusive, isLpa, isToa, isTwa, inForce, workersOn, hasTerm, authorityNo, isTrain, live, authority, onBoard, train, touches, touchesPortion, needs}
 use Rattle.rules.specs.Call.{minuteOf, isCall, named, inRanges}
 
 -- ---- "The lowest number whose condition holds is given."
@@ -127,6 +128,16 @@ outsideTerm s a = isLpa (a .kind) && (not (hasTerm a) || not (inTerm s a))
 unfoldable pub notAtDistance : ℕ → Bool
 notAtDistance distance = ltb distance 500 || ltb 1000 distance
 
+-- ---- bookings (02, order 6)
+
+-- 5, of BOOK IN: the paper is "not the one booked". A gate that isn't out has the paper 0, and no call's paper is 0.
+unfoldable pub notBooked : Board → ℕ → ℕ → Bool
+notBooked b g paper = not (eqb (bookingAt (b .bookings) g .paper .0) paper)
+
+-- 25: "BOOK IN would restore a gate whose block is on"
+unfoldable pub restoresBlocked : Board → ℕ → Bool → Bool
+restoresBlocked b g certified = certified && has g (b .blocks)
+
 -- ---- MOVE
 
 -- "Let E be the exclusive authority and W the TWA in force whose limits hold the gate's "to"."
@@ -203,11 +214,11 @@ agreeRefusals b toa twa officer =
     ∷ 8 when eqb (authority b twa .agreed .0) toa
     ∷ []
 
--- BLOCK {8; 10 "gate of kind 4"}
+-- BLOCK {8; 10 "gate of kind 4"; 02, order 6: "10 at BLOCK, now follow the booking"}
 abbrev pub blockRefusals : Board → ℕ → List Refusal
 blockRefusals b g =
     8 when has g (b .blocks)
-    ∷ 10 when eqb (gateAt (b .gates) g .kind) 4
+    ∷ 10 when not (canBeBlocked b g)
     ∷ []
 
 -- UNBLOCK {8; 16}
@@ -315,6 +326,20 @@ joinRefusals b twa toa officer distance =
     ∷ 24 when notAtDistance distance
     ∷ []
 
+-- BOOK OUT, order 6: "gate of kind 4 (10 for another kind, 8 if out)"
+abbrev pub bookOutRefusals : Board → ℕ → List Refusal
+bookOutRefusals b g =
+    8 when isOut b g
+    ∷ 10 when not (isPlain (gateAt (b .gates) g))
+    ∷ []
+
+-- BOOK IN, order 6: "paper (5 if not the one booked)"; 25, "tested last"
+abbrev pub bookInRefusals : Board → ℕ → ℕ → Bool → List Refusal
+bookInRefusals b g paper certified =
+    5 when notBooked b g paper
+    ∷ 25 when restoresBlocked b g certified
+    ∷ []
+
 -- the conditions of a call; `s` has its stamp
 unfoldable pub own : Board → Seven → Call → List Refusal
 own b s NoSuchCall = []
@@ -334,6 +359,8 @@ own b s (Move t g n officer) = moveRefusals b (t .0) (g .0) (gateAt (b .gates) (
 own b s (Passed t) = passedRefusals b (t .0)
 own b s (Term n day time length) = termRefusals b s (n .0) (minuteOf day time)
 own b s (Join twa toa officer distance) = joinRefusals b (twa .0) (toa .0) officer distance
+own b s (BookOut g paper) = bookOutRefusals b (g .0)
+own b s (BookIn g paper certified new) = bookInRefusals b (g .0) (paper .0) certified
 
 -- all conditions of a call; `room` is the length of the buffer for its line
 unfoldable pub conditions : Board → Seven → ℕ → List Refusal

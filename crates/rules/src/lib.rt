@@ -2,12 +2,14 @@
 // theorems in proofs/.
 pub mod refusal;
 
-// The three kinds of number that are never taken for one another.
+// The four kinds of number that are never taken for one another: those of authorities, of trains, of gates, and of the papers that book a gate out of use.
 pub struct AuthorityNo(pub u16);
 
 pub struct TrainNo(pub u16);
 
 pub struct GateNo(pub u16);
+
+pub struct PaperNo(pub u16);
 
 // The kinds of authority. LPA and TOA are exclusive.
 pub enum Kind {
@@ -44,6 +46,9 @@ pub enum Field {
     Time,
     Length,
     Distance,
+    Paper,
+    Certified,
+    NewPaper,
 }
 
 // The kinds of a call's four fields.
@@ -128,6 +133,16 @@ pub enum Call {
         officer: u16,
         distance: u16,
     },
+    BookOut {
+        gate: GateNo,
+        paper: PaperNo,
+    },
+    BookIn {
+        gate: GateNo,
+        paper: PaperNo,
+        certified: bool,
+        new: PaperNo,
+    },
 }
 
 // A gate: traffic goes from one portion to another; 99 is outside the board.
@@ -135,6 +150,12 @@ pub struct Gate {
     pub from: u16,
     pub to: u16,
     pub kind: u16,
+}
+
+// A gate's booking: the paper that it is booked out of use under, 0 where it isn't out, and the paper that this one replaced, or 0.
+pub struct Booking {
+    pub paper: PaperNo,
+    pub replaced: PaperNo,
 }
 
 // A live authority. The limits are a set of portions (crate portions); agreed is the authority whose officer's agreement it rests on, a TWA's TOA
@@ -160,11 +181,12 @@ pub struct Train {
 }
 
 // The board's whole state. Of each array only the first places, as many as its count says, are in use; authorities and trains stand by ascending number.
-// blocks is a set of gates; last is the last number allotted; day and time are the stamp of the last accepted call.
+// bookings has a place for each gate; blocks is a set of gates; last is the last number allotted; day and time are the stamp of the last accepted call.
 pub struct Register {
     pub portions: u16,
     pub gate_count: usize,
     pub gates: [Gate; 64],
+    pub bookings: [Booking; 64],
     pub day: u16,
     pub time: u16,
     pub last: u16,

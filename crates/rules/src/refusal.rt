@@ -1,4 +1,4 @@
-// The refusals by document 01's words; 21 and 22 are 02's order 1, 23 its order 2, 24 its order 4.
+// The refusals by document 01's words; 21 and 22 are 02's order 1, 23 its order 2, 24 its order 4, 25 its order 6.
 pub const SHORT_LINE: u16 = 1;
 
 pub const NO_SUCH_CALL: u16 = 2;
@@ -48,3 +48,6 @@ pub const SHORT_PAGE: u16 = 23;
 
 // The distance is under 500 or over 1000 metres.
 pub const DISTANCE: u16 = 24;
+
+// BOOK IN would restore a gate whose block is on.
+pub const BLOCK_ON: u16 = 25;

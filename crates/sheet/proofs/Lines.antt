@@ -13,7 +13,7 @@ use Rattle.cells.specs.declared.Cell.the-variants.{Empty}
 use Rattle.cells.specs.Cells.{cell, cellFits, cellLine, cellsFit, Filled}
 use Rattle.cells.proofs.Cells.{cell-length, cells-next, cell-line-step}
 use Rattle.rules.specs.Sheet.{sheetWidths, pageOf}
-use Rattle.sheet.proofs.Fitting.{line-73}
+use Rattle.rows.proofs.Fitting.{line-73}
 
 -- ---- a line, cell by cell
 

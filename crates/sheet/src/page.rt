@@ -9,9 +9,9 @@ ghost use Rattle.cells.specs.Cells.{cellLine, cellsFit};
 ghost use Rattle.rules.specs.Call.{minuteOf};
 ghost use Rattle.rules.specs.Step.{Kept};
 ghost use Rattle.rules.specs.Sheet.{authorityCells, sheetWidths, pageOf, SheetPost};
-use crate::rows::authority_cells;
-use crate::rows::total_cells;
 use cells::Cell;
+use rows::authority_cells;
+use rows::total_cells;
 use rules::Register;
 use rules::refusal::SHORT_PAGE;
 

@@ -3,7 +3,7 @@ use borrow.Author.Needs.{needs}
 use mathlib.Core.Path.{refl}
 use Rattle.rules.specs.Board.{boardOf}
 use Rattle.rules.specs.Effects.{effect}
-use Rattle.authorities.specs.Authorities.{changeOf}
+use Rattle.amendments.specs.Changes.{changeOf}
 use Rattle.changes.proofs.Changing.{amended-effect}
 use Rattle.changes.proofs.grant.Statement.{statement}
 use Rattle.changes.proofs.grant.Tie as tie

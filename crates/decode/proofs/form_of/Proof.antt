@@ -67,7 +67,15 @@ unfolding entryOf calls
 returns-15 c = rw (c .match .keys15)
 
 returns-16 : tie.Need-returns-16
-returns-16 c = ap (λ (e : Entry). e .form) (no-entry (c .before .args .call) (c .match .rest))
+unfolding entryOf calls
+returns-16 c = rw (c .match .keys16)
+
+returns-17 : tie.Need-returns-17
+unfolding entryOf calls
+returns-17 c = rw (c .match .keys17)
+
+returns-18 : tie.Need-returns-18
+returns-18 c = ap (λ (e : Entry). e .form) (no-entry (c .before .args .call) (c .match .rest))
 
 pub form-of-spec : {M : Type 1} → statement M
 form-of-spec =
@@ -88,4 +96,6 @@ form-of-spec =
     returns-13
     returns-14
     returns-15
-    returns-16)
+    returns-16
+    returns-17
+    returns-18)

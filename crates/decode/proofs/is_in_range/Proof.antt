@@ -59,6 +59,18 @@ enum-told-14 c = search needs
 enum-told-15 : tie.Need-enum-told-15
 enum-told-15 c = search needs
 
+enum-told-16 : tie.Need-enum-told-16
+enum-told-16 c = search needs
+
+enum-told-17 : tie.Need-enum-told-17
+enum-told-17 c = search needs
+
+enum-told-18 : tie.Need-enum-told-18
+enum-told-18 c = search needs
+
+is-new-paper-requires : tie.Need-is-new-paper-requires
+is-new-paper-requires c κs = search needs
+
 returns : tie.Need-returns
 unfolding inRange
 returns c = rw (c .enum-told .given .1)
@@ -69,7 +81,7 @@ returns-2 c = rw (c .enum-told2 .given .1)
 
 returns-3 : tie.Need-returns-3
 unfolding inRange
-returns-3 c = rw (c .enum-told3 .given .1)
+returns-3 c = rw (c .before .enum-told3 .given .1)
 
 returns-4 : tie.Need-returns-4
 unfolding inRange
@@ -119,6 +131,18 @@ returns-15 : tie.Need-returns-15
 unfolding inRange
 returns-15 c = rw (c .enum-told15 .given .1)
 
+returns-16 : tie.Need-returns-16
+unfolding inRange
+returns-16 c = rw (c .enum-told16 .given .1)
+
+returns-17 : tie.Need-returns-17
+unfolding inRange
+returns-17 c = rw (c .enum-told17 .given .1)
+
+returns-18 : tie.Need-returns-18
+unfolding inRange
+returns-18 c = rw (c .before .enum-told18 .given .1) (c .is-new-paper .ensures)
+
 pub is-in-range-spec : {M : Type 1} → statement M
 is-in-range-spec =
     tie.close
@@ -140,6 +164,10 @@ is-in-range-spec =
     is-time-requires
     enum-told-14
     enum-told-15
+    enum-told-16
+    enum-told-17
+    enum-told-18
+    is-new-paper-requires
     returns
     returns-2
     returns-3
@@ -154,4 +182,7 @@ is-in-range-spec =
     returns-12
     returns-13
     returns-14
-    returns-15)
+    returns-15
+    returns-16
+    returns-17
+    returns-18)

@@ -71,8 +71,16 @@ unfolding named entryOf calls
 returns-15 c = rw (c .match .keys15)
 
 returns-16 : tie.Need-returns-16
+unfolding named entryOf calls
+returns-16 c = rw (c .match .keys16)
+
+returns-17 : tie.Need-returns-17
+unfolding named entryOf calls
+returns-17 c = rw (c .before .match .keys17)
+
+returns-18 : tie.Need-returns-18
 unfolding named
-returns-16 c = ap (λ (e : Entry). e .named (c .before .args .s)) (no-entry (c .before .args .s .call) (c .match .rest))
+returns-18 c = ap (λ (e : Entry). e .named (c .before .args .s)) (no-entry (c .before .args .s .call) (c .match .rest))
 
 pub name-spec : {M : Type 1} → statement M
 name-spec =
@@ -94,4 +102,6 @@ name-spec =
     returns-13
     returns-14
     returns-15
-    returns-16)
+    returns-16
+    returns-17
+    returns-18)

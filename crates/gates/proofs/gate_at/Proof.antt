@@ -2,10 +2,8 @@
 use native.Mathlib.Omega.{arith}
 use mathlib.Core.Path.{sym, _∙_}
 use denote.Ref.{now}
-use lib.ListN.{take, length-take, List·getD-eq-default}
-use lib.Seq.{getD-take}
 use borrow.Author.Needs.{needs}
-use Rattle.lists.specs.Prefix.{prefix}
+use Rattle.lists.proofs.Prefix.{prefix-at, prefix-past}
 use Rattle.rules.specs.Board.{noGate}
 use Rattle.places.specs.Places.{gatesIn}
 use Rattle.gates.proofs.gate_at.Statement.{statement}
@@ -18,16 +16,14 @@ gate-at-requires : tie.Need-gate-at-requires
 gate-at-requires c κs = search needs
 
 returns : tie.Need-returns
-unfolding prefix
 returns c =
-    let s = c .before .before .before in
-    c .gate-at .ensures ∙ sym (getD-take (s .args .count) (gatesIn (now (s .args .gates))) (s .args .g .0) noGate (omega arith))
+    let a = c .before .before .before .args in
+    c .gate-at .ensures ∙ sym (prefix-at (gatesIn (now (a .gates))) (a .count) (a .g .0) noGate (omega arith))
 
 returns-2 : tie.Need-returns-2
-unfolding prefix
 returns-2 c =
-    let s = c .before .before in
-    sym (List·getD-eq-default (take (s .args .count) (gatesIn (now (s .args .gates)))) noGate (simp length-take (omega arith)))
+    let a = c .before .before .args in
+    sym (prefix-past (gatesIn (now (a .gates))) (a .count) (a .g .0) noGate (omega arith))
 
 pub gate-at-spec : {M : Type 1} → statement M
 gate-at-spec = tie.close (tie.spec cast-i gate-at-requires returns returns-2)

@@ -1,5 +1,4 @@
 -- `answers::answer::answer_block` meets its contract. Assumes nothing.
-use borrow.Author.Tests.{eq-eqb, ne-eqb}
 use borrow.Author.Needs.{needs}
 use Rattle.rules.specs.Board.{boardOf}
 use Rattle.rules.specs.Refusals.{lowest}
@@ -13,28 +12,28 @@ returns : tie.Need-returns
 unfolding boardOf lowest
 returns c = rw (← c .before .has .ensures, c .if1 .taken)
 
-gate-at-requires : tie.Need-gate-at-requires
-gate-at-requires c κs = search needs
+can-be-blocked-requires : tie.Need-can-be-blocked-requires
+can-be-blocked-requires c κs = search needs
 
 returns-2 : tie.Need-returns-2
 unfolding boardOf lowest
 returns-2 c =
     rw (
-      ← c .before .before .before .before .has .ensures,
-      c .before .before .before .if1 .left,
-      ← c .before .before .gate-at .ensures,
-      eq-eqb _ _ (c .if2 .taken),
+      ← c .before .before .before .has .ensures,
+      c .before .before .if1 .left,
+      ← c .before .can-be-blocked .ensures,
+      c .if2 .taken,
     )
 
 returns-3 : tie.Need-returns-3
 unfolding boardOf lowest
 returns-3 c =
     rw (
-      ← c .before .before .before .before .has .ensures,
-      c .before .before .before .if1 .left,
-      ← c .before .before .gate-at .ensures,
-      ne-eqb _ _ (c .if2 .left),
+      ← c .before .before .before .has .ensures,
+      c .before .before .if1 .left,
+      ← c .before .can-be-blocked .ensures,
+      c .if2 .left,
     )
 
 pub answer-block-spec : {M : Type 1} → statement M
-answer-block-spec = tie.close (tie.spec has-requires returns gate-at-requires returns-2 returns-3)
+answer-block-spec = tie.close (tie.spec has-requires returns can-be-blocked-requires returns-2 returns-3)

@@ -100,6 +100,18 @@ enum-known-c-14 c = search needs
 answer-join-requires : tie.Need-answer-join-requires
 answer-join-requires c κs = search needs
 
+enum-known-c-15 : tie.Need-enum-known-c-15
+enum-known-c-15 c = search needs
+
+answer-book-out-requires : tie.Need-answer-book-out-requires
+answer-book-out-requires c κs = search needs
+
+enum-known-c-16 : tie.Need-enum-known-c-16
+enum-known-c-16 c = search needs
+
+answer-book-in-requires : tie.Need-answer-book-in-requires
+answer-book-in-requires c κs = search needs
+
 returns : tie.Need-returns
 unfolding own lowest
 returns c = rw (c .enum-told .given .1)
@@ -168,6 +180,14 @@ returns-17 : tie.Need-returns-17
 unfolding own
 returns-17 c = rw (c .before .before .c14 .given .1) (c .answer-join .ensures)
 
+returns-18 : tie.Need-returns-18
+unfolding own
+returns-18 c = rw (c .before .before .c15 .given .1) (c .answer-book-out .ensures)
+
+returns-19 : tie.Need-returns-19
+unfolding own
+returns-19 c = rw (c .before .before .c16 .given .1) (c .answer-book-in .ensures)
+
 pub answer-of-spec : {M : Type 1} → statement M
 answer-of-spec =
     tie.close
@@ -204,6 +224,10 @@ answer-of-spec =
     answer-term-requires
     enum-known-c-14
     answer-join-requires
+    enum-known-c-15
+    answer-book-out-requires
+    enum-known-c-16
+    answer-book-in-requires
     returns
     returns-2
     returns-3
@@ -220,4 +244,6 @@ answer-of-spec =
     returns-14
     returns-15
     returns-16
-    returns-17)
+    returns-17
+    returns-18
+    returns-19)

@@ -6,14 +6,14 @@ use types.Run.{OneOf, miss}
 use denote.Enum.Declared.{tagOf}
 use borrow.Author.Needs.{needs}
 use Rattle.rules.specs.declared.Call.{Call}
-use Rattle.rules.specs.declared.Call.the-variants.{NoSuchCall, BadField, Request, Withdraw, Agree, Block, Unblock, Grant, Clear, Reoccupy, HandOver, Fulfil, Continue, Move, Passed, Term, Join}
+use Rattle.rules.specs.declared.Call.the-variants.{NoSuchCall, BadField, Request, Withdraw, Agree, Block, Unblock, Grant, Clear, Reoccupy, HandOver, Fulfil, Continue, Move, Passed, Term, Join, BookOut, BookIn}
 use Rattle.rules.proofs.Call as enum
 use Rattle.board.specs.Faults.{faultOf}
 use Rattle.board.proofs.entry.fault_of.Statement.{statement}
 use Rattle.board.proofs.entry.fault_of.Tie as tie
 
 abbrev others : List ℕ
-others = 2 ∷ 3 ∷ 4 ∷ 5 ∷ 6 ∷ 7 ∷ 8 ∷ 9 ∷ 10 ∷ 11 ∷ 12 ∷ 13 ∷ 14 ∷ 15 ∷ 16 ∷ []
+others = 2 ∷ 3 ∷ 4 ∷ 5 ∷ 6 ∷ 7 ∷ 8 ∷ 9 ∷ 10 ∷ 11 ∷ 12 ∷ 13 ∷ 14 ∷ 15 ∷ 16 ∷ 17 ∷ 18 ∷ []
 
 enum-told : tie.Need-enum-told
 enum-told c = search needs
@@ -41,6 +41,8 @@ rest (Move t g n officer) h = refl
 rest (Passed t) h = refl
 rest (Term n day time length) h = refl
 rest (Join twa toa officer distance) h = refl
+rest (BookOut g paper) h = refl
+rest (BookIn g paper certified new) h = refl
 
 returns : tie.Need-returns
 unfolding faultOf

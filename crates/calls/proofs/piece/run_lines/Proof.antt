@@ -21,12 +21,12 @@ use Rattle.calls.proofs.piece.run_lines.Statement.{statement}
 use Rattle.calls.proofs.piece.run_lines.Tie as tie
 
 abbrev Inv-loop : tie.InvT-loop
-Inv-loop gates authorities₀ trains₀ text out₀ most held₀ lines₀ authorities trains out held lines =
+Inv-loop gates₀ authorities₀ trains₀ text out₀ most held₀ lines₀ gates authorities trains out held lines =
     Kept (registerIn held gates authorities trains)
-    × SoFar most (boardOf (registerIn held₀ gates authorities₀ trains₀)) text out₀ lines (boardOf (registerIn held gates authorities trains)) out
+    × SoFar most (boardOf (registerIn held₀ gates₀ authorities₀ trains₀)) text out₀ lines (boardOf (registerIn held gates authorities trains)) out
 
 abbrev μ-loop : tie.MeasureT-loop
-μ-loop gates authorities₀ trains₀ text out₀ most held₀ lines₀ authorities trains out held lines = most - lines
+μ-loop gates₀ authorities₀ trains₀ text out₀ most held₀ lines₀ gates authorities trains out held lines = most - lines
 
 -- ---- the loop's head
 
@@ -41,7 +41,7 @@ abbrev buffer : Head → List ℕ
 buffer l = l .before .before .before .args .out .now
 
 abbrev register : Head → Register
-register l = registerIn (l .loop .held) (l .before .before .before .args .gates .now) (l .loop .authorities) (l .loop .trains)
+register l = registerIn (l .loop .held) (l .loop .gates) (l .loop .authorities) (l .loop .trains)
 
 abbrev board : Head → Board
 board l = boardOf (register l)
@@ -127,13 +127,13 @@ returns-2 : tie.Need-returns-2 Inv-loop μ-loop
 returns-2 c = malformed (c .before .before .before .before .before .before) (omega arith) (lent (c .before .before) ∙ c .enum-told .given .1)
 
 take-requires : tie.Need-take-requires Inv-loop μ-loop
-take-requires c κs = c .before .before .before .before .before .before .before .before .before .loop .inv .0
+take-requires c κs = c .before .before .before .before .before .before .before .before .before .before .loop .inv .0
 
 mul-to : tie.Need-mul-to Inv-loop μ-loop
-mul-to c = omega (arith, bounded (c .before .before .before .before .before .before .before .before .before .before))
+mul-to c = omega (arith, bounded (c .before .before .before .before .before .before .before .before .before .before .before))
 
 add-write-journal : tie.Need-add-write-journal Inv-loop μ-loop
-add-write-journal c = omega (arith, bounded (c .before .before .before .before .before .before .before .before .before .before))
+add-write-journal c = omega (arith, bounded (c .before .before .before .before .before .before .before .before .before .before .before))
 
 sub-write-journal : tie.Need-sub-write-journal Inv-loop μ-loop
 sub-write-journal c = omega arith
@@ -145,7 +145,7 @@ part-write-journal-end : tie.Need-part-write-journal-end Inv-loop μ-loop
 part-write-journal-end c = omega arith
 
 add-write-journal-2 : tie.Need-add-write-journal-2 Inv-loop μ-loop
-add-write-journal-2 c = omega (arith, bounded (c .before .before .before .before .before .before .before .before .before .before .before))
+add-write-journal-2 c = omega (arith, bounded (c .before .before .before .before .before .before .before .before .before .before .before .before))
 
 sub-write-journal-2 : tie.Need-sub-write-journal-2 Inv-loop μ-loop
 sub-write-journal-2 c = omega arith
@@ -158,12 +158,12 @@ part-write-journal-end-2 c = omega arith
 
 write-journal-requires : tie.Need-write-journal-requires Inv-loop μ-loop
 write-journal-requires c κs =
-    let l = c .before .before .before .before .before .before .before .before .before .before .before .before in
-    let called = c .before .before .before .before .before .before in
+    let l = c .before .before .before .before .before .before .before .before .before .before .before .before .before in
+    let called = c .before .before .before .before .before .before .before in
     (line-part (43 * l .loop .lines) (text l) ∙ lent (called .before .before) ∙ called .seven .given .1, room l (omega arith))
 
 add-lines : tie.Need-add-lines Inv-loop μ-loop
-add-lines c = omega (arith, bounded (c .before .before .before .before .before .before .before .before .before .before .before .before .before .before .before .before))
+add-lines c = omega (arith, bounded (c .before .before .before .before .before .before .before .before .before .before .before .before .before .before .before .before .before))
 
 loop-less : tie.Need-loop-less Inv-loop μ-loop
 loop-less c = omega arith
@@ -171,10 +171,10 @@ loop-less c = omega arith
 loop-again : tie.Need-loop-again Inv-loop μ-loop
 loop-again c =
     let taken = c .before .before .before .before .before .before .take in
-    let called = c .before .before .before .before .before .before .before .before .before .before in
+    let called = c .before .before .before .before .before .before .before .before .before .before .before in
     let l = called .before .before .before .before .before .before in
     let w = c .before .before .before .write-journal in
-    let b = boardOf (registerIn (taken .result .head) (l .before .before .before .args .gates .now) (taken .last .1 .1 .0) (taken .last .1 .1 .1 .0)) in (
+    let b = boardOf (registerIn (taken .result .head) (taken .last .1 .0) (taken .last .1 .1 .0) (taken .last .1 .1 .1 .0)) in (
       taken .ensures .kept,
       so-far-call _ _ _ _ (l .loop .lines) (board l) (l .loop .out) (l .loop .inv .1) (called .seven .given .0 .0) b (w .last .1 .1 .1 .1 .0)
           (omega arith) (omega arith) (omega arith) (lent (called .before .before) ∙ called .seven .given .1) (taken .ensures .board)

@@ -3,7 +3,7 @@ use borrow.Author.Needs.{needs}
 use mathlib.Core.Path.{ap, _∙_}
 use Rattle.rules.specs.Board.{boardOf, amended}
 use Rattle.rules.specs.Effects.{effect, granted}
-use Rattle.authorities.specs.Authorities.{changeOf}
+use Rattle.amendments.specs.Changes.{changeOf}
 use Rattle.traffic.specs.Changes.{trainTest, trainChange}
 use Rattle.changes.proofs.Changing.{changed-effect}
 use Rattle.effects.proofs.effect.continue_as.Statement.{statement}

@@ -1,4 +1,4 @@
--- `places::gate::gate_at` meets its contract: three numbers read from a group of three. Assumes nothing.
+-- `places::gate::gate_at` meets its contract: the first three numbers of a group of five. Assumes nothing.
 use Prim.Native.Nat.{_*_}
 use native.Mathlib.Omega.{arith}
 use mathlib.Core.Path.{refl}
@@ -40,8 +40,8 @@ returns : tie.Need-returns
 unfolding gateFrom gatesIn
 returns c =
     let a = c .before .before .before .args in
-    let read = number-read 3 (3 * a .i) (a .gates .now) in
-    rw (place-read gateFrom 3 64 (a .i) (a .gates .now) noGate (omega arith), read 0 refl, read 1 refl, read 2 refl)
+    let read = number-read 5 (5 * a .i) (a .gates .now) in
+    rw (place-read gateFrom 5 64 (a .i) (a .gates .now) noGate (omega arith), read 0 refl, read 1 refl, read 2 refl)
 
 pub gate-at-spec : {M : Type 1} → statement M
 gate-at-spec =

@@ -2,7 +2,7 @@
 use mathlib.Core.Path.{subst, sym}
 use Prim.Native.Nat.{ℕ, _^_, _<_}
 use borrow.Author.Needs.{needs}
-use Rattle.sheet.proofs.Fitting.{now-small}
+use Rattle.rows.proofs.Fitting.{now-small}
 use Rattle.sheet.proofs.page.minute_of.Statement.{statement}
 use Rattle.sheet.proofs.page.minute_of.Tie as tie
 
