@@ -3,11 +3,12 @@
 //!   generate SEED KIND OUTDIR      writes the files plan and calls
 //!   generate SEED busy N OUTDIR    the same, N calls on a busy board
 //!
-//! Kinds: steered, numbers, damaged, short, wild, shift, limits, trains, busy N.
-//! The generator looks at the reference's board, which it uses as a module, to steer
-//! towards calls that are accepted or refused for a wanted reason. The clock goes
-//! on by a few minutes a call, and sometimes by about a week to the term of an
-//! LPA; now and then some TOAs and TWAs join and agree over the same few portions.
+//! Kinds: steered, numbers, damaged, short, wild, shift, limits, trains, bookings,
+//! busy N. The generator looks at the reference's board, which it uses as a module,
+//! to steer towards calls that are accepted or refused for a wanted reason. The
+//! clock goes on by a few minutes a call, and sometimes by about a week to the term
+//! of an LPA; now and then some TOAs and TWAs join and agree over the same few
+//! portions. Plain signals are booked out for what needs them.
 //!
 //! Build: rustc -O generate.rs
 
@@ -16,9 +17,9 @@
 mod reference;
 
 use reference::{
-    write_number, Authority, AuthorityNumber, Board, Gate, GateNumber, Kind, Place, Portions, Site, Stamp, Train,
-    TrainNumber, CALL_LINE, COLUMNS, DAY, LAST_NUMBER, LEAST_DISTANCE, MOST_DISTANCE, MOST_LIVE, MOST_TRAINS, NOTICE,
-    OUTSIDE, PLAN_LINE,
+    write_number, Authority, AuthorityNumber, Board, Booking, Gate, GateNumber, Kind, Paper, Place, Portions, Site,
+    Stamp, Train, TrainNumber, CALL_LINE, COLUMNS, DAY, LAST_NUMBER, LEAST_DISTANCE, MOST_DISTANCE, MOST_LIVE,
+    MOST_TRAINS, NOTICE, OUTSIDE, PLAIN, PLAN_LINE,
 };
 use std::fs::{self, File};
 use std::io::{self, BufWriter, Write};
@@ -201,9 +202,9 @@ impl Plan {
     }
 
     fn set_kinds(&mut self, rng: &mut Rng) {
-        let plain = rng.pick(&[0, 0, 5, 10, 30]);
+        let plain = rng.pick(&[0, 5, 15, 30, 50, 80, 100]);
         for gate in &mut self.gates {
-            gate[2] = if rng.chance(plain) { 4 } else { rng.between(1, 3) };
+            gate[2] = if rng.chance(plain) { PLAIN } else { rng.between(1, 3) };
         }
     }
 
@@ -212,11 +213,13 @@ impl Plan {
     }
 
     /// P 64, G 64: a ring of 48 portions with four ways in and four out, and a
-    /// yard of 16 portions with eight gates.
+    /// yard of 16 portions with eight gates. Every sixth gate of the ring is a
+    /// plain signal.
     fn busy(rng: &mut Rng) -> Plan {
         let mut plan = Plan { portions: 64, gates: Vec::new() };
         for portion in 0..48 {
-            plan.gates.push([portion, (portion + 1) % 48, rng.between(1, 3)]);
+            let kind = if portion % 6 == 5 { PLAIN } else { rng.between(1, 3) };
+            plan.gates.push([portion, (portion + 1) % 48, kind]);
         }
         for quarter in 0..4 {
             plan.gates.push([OUTSIDE, 12 * quarter, rng.between(1, 3)]);
@@ -225,7 +228,7 @@ impl Plan {
         for pair in 0..4 {
             let at = 48 + 4 * pair;
             plan.gates.push([at, at + 1, rng.between(1, 3)]);
-            plan.gates.push([at + 1, at, if pair == 0 { 4 } else { rng.between(1, 3) }]);
+            plan.gates.push([at + 1, at, if pair == 0 { PLAIN } else { rng.between(1, 3) }]);
         }
         plan.shuffle(rng);
         plan
@@ -274,12 +277,16 @@ enum Role {
     StartTime,
     Length,
     Distance,
+    Paper,
+    Certified,
+    /// 0 or a paper
+    NewPaper,
     Unused,
 }
 
 fn roles(call: u16) -> [Role; 4] {
     use self::Role::{Assurances, First, Gate, Kind, Last, Officer, Pilot, PilotOfficer, Train, Unused};
-    use self::Role::{Distance, Length, StartDay, StartTime};
+    use self::Role::{Certified, Distance, Length, NewPaper, Paper, StartDay, StartTime};
     const A: Role = Role::Authority;
     match call {
         1 => [Kind, First, Last, Officer],
@@ -292,6 +299,8 @@ fn roles(call: u16) -> [Role; 4] {
         13 => [Train, Unused, Unused, Unused],
         14 => [A, StartDay, StartTime, Length],
         15 => [A, A, Officer, Distance],
+        16 => [Gate, Paper, Unused, Unused],
+        17 => [Gate, Paper, Certified, NewPaper],
         _ => [A, Officer, Unused, Unused],
     }
 }
@@ -315,6 +324,8 @@ fn refusals(call: u16) -> &'static [u16] {
         13 => &[3, 4, 8, 17],
         14 => &[3, 4, 5, 6, 8, 21, 21],
         15 => &[3, 4, 5, 6, 6, 7, 8, 24, 24],
+        16 => &[3, 4, 8, 10],
+        17 => &[3, 3, 4, 5, 5, 25, 25],
         _ => &[2],
     }
 }
@@ -323,28 +334,32 @@ fn refusals(call: u16) -> &'static [u16] {
 // Steering
 // ---------------------------------------------------------------------------
 
-/// Weights of the calls 1 to 15.
-type Mood = [usize; 15];
+/// Weights of the calls 1 to 17.
+type Mood = [usize; 17];
 
-const BUILD: Mood = [14, 2, 8, 22, 3, 20, 5, 3, 3, 2, 6, 8, 4, 8, 6];
-const TRAFFIC: Mood = [4, 1, 3, 5, 6, 5, 8, 6, 3, 2, 4, 35, 20, 3, 3];
-const WIND_DOWN: Mood = [3, 8, 3, 3, 20, 4, 14, 3, 4, 20, 10, 8, 12, 3, 3];
-const FILL: Mood = [70, 1, 3, 6, 1, 6, 2, 2, 2, 1, 1, 4, 2, 5, 3];
-const CROWD: Mood = [2, 1, 1, 2, 1, 3, 2, 2, 1, 1, 2, 70, 3, 2, 1];
-const DRAIN: Mood = [2, 1, 1, 2, 8, 2, 6, 2, 2, 2, 2, 40, 30, 2, 1];
-const EVEN: Mood = [8, 8, 8, 8, 8, 8, 8, 8, 8, 8, 8, 8, 8, 8, 8];
-const RENEW: Mood = [16, 2, 3, 14, 2, 6, 5, 3, 3, 2, 24, 20, 3, 8, 5];
-const WORKSITE: Mood = [10, 2, 14, 12, 2, 14, 12, 16, 3, 2, 6, 24, 8, 4, 8];
-const POSSESSION: Mood = [16, 4, 2, 14, 3, 22, 8, 3, 3, 6, 16, 8, 3, 22, 2];
-const JOURNEY: Mood = [14, 2, 6, 16, 2, 18, 8, 6, 4, 5, 10, 12, 6, 2, 22];
-const MOODS: [&Mood; 11] =
-    [&BUILD, &TRAFFIC, &WIND_DOWN, &FILL, &CROWD, &DRAIN, &EVEN, &RENEW, &WORKSITE, &POSSESSION, &JOURNEY];
+const BUILD: Mood = [14, 2, 8, 22, 3, 20, 5, 3, 3, 2, 6, 8, 4, 8, 6, 12, 6];
+const TRAFFIC: Mood = [4, 1, 3, 5, 6, 5, 8, 6, 3, 2, 4, 35, 20, 3, 3, 4, 4];
+const WIND_DOWN: Mood = [3, 8, 3, 3, 24, 4, 14, 3, 4, 20, 10, 8, 12, 3, 3, 3, 14];
+const FILL: Mood = [70, 1, 3, 6, 1, 6, 2, 2, 2, 1, 1, 4, 2, 5, 3, 3, 2];
+const CROWD: Mood = [2, 1, 1, 2, 1, 3, 2, 2, 1, 1, 2, 70, 3, 2, 1, 1, 1];
+const DRAIN: Mood = [2, 1, 1, 2, 8, 2, 6, 2, 2, 2, 2, 40, 30, 2, 1, 2, 3];
+const EVEN: Mood = [8, 8, 8, 8, 8, 8, 8, 8, 8, 8, 8, 8, 8, 8, 8, 8, 8];
+const RENEW: Mood = [16, 2, 3, 14, 2, 6, 5, 3, 3, 2, 24, 20, 3, 8, 5, 10, 6];
+const WORKSITE: Mood = [10, 2, 14, 12, 2, 14, 12, 16, 3, 2, 6, 24, 8, 4, 8, 6, 6];
+const POSSESSION: Mood = [16, 4, 2, 14, 3, 22, 8, 3, 3, 6, 16, 8, 3, 22, 2, 6, 5];
+const JOURNEY: Mood = [14, 2, 6, 16, 2, 18, 8, 6, 4, 5, 10, 12, 6, 2, 22, 8, 5];
+const BOOKINGS: Mood = [8, 2, 2, 13, 20, 10, 5, 2, 2, 5, 9, 8, 4, 3, 3, 18, 34];
+const MOODS: [&Mood; 13] = [
+    &BUILD, &TRAFFIC, &WIND_DOWN, &FILL, &CROWD, &DRAIN, &EVEN, &RENEW, &WORKSITE, &POSSESSION, &JOURNEY, &BOOKINGS, &BOOKINGS,
+];
 
 struct Driver {
     rng: Rng,
     board: Board,
     officers: Vec<u16>,
     train_pool: Vec<u16>,
+    /// papers to book gates out under, few enough that they come again
+    papers: Vec<u16>,
     mood: Mood,
     /// minutes that a call goes on, in thousandths
     pace: usize,
@@ -389,9 +404,11 @@ impl Driver {
         officers.extend([1, 999]);
         let mut train_pool: Vec<u16> = (1..=34 + rng.between(0, 6)).collect();
         train_pool.extend([64, 99, 9998, 9999]);
+        let mut papers: Vec<u16> = (0..3 + rng.below(8)).map(|_| rng.between(1, 9999)).collect();
+        papers.extend([1, 2, 256, 9998, 9999]);
         let (picks, train_picks) = (Vec::with_capacity(MOST_LIVE), Vec::with_capacity(MOST_TRAINS));
         let (mood, pace, leaps, ration, next) = (EVEN, 2000, true, 9999, None);
-        Driver { rng, board, officers, train_pool, mood, pace, leaps, ration, next, picks, train_picks }
+        Driver { rng, board, officers, train_pool, papers, mood, pace, leaps, ration, next, picks, train_picks }
     }
 
     fn answer(&self, numbers: &[u16; 7]) -> u16 {
@@ -619,6 +636,8 @@ impl Driver {
             }
             14 => self.good_term(stamp),
             15 => self.good_join(),
+            16 => self.good_book_out(),
+            17 => self.good_book_in(want),
             _ => [self.any(Role::Authority), self.any_officer(), 0, 0],
         }
     }
@@ -727,7 +746,8 @@ impl Driver {
 
     fn good_block(&mut self) -> [u16; 4] {
         let blocked = self.board.blocked;
-        let free = |number: GateNumber, gate: &Gate| gate.can_be_blocked() && !blocked.hold(number);
+        let able: Vec<bool> = self.gates_where(|board, number| board.can_be_blocked(number));
+        let free = |number: GateNumber, _: &Gate| able[usize::from(number.0)] && !blocked.hold(number);
         let mut gate = None;
         if self.rng.chance(80) {
             // what some pending authority still needs
@@ -736,6 +756,156 @@ impl Driver {
             }
         }
         [gate.or_else(|| self.pick_gate(free)).unwrap_or_else(|| self.any_gate()), 0, 0, 0]
+    }
+
+    // ----- bookings -----
+
+    /// For each gate, whether it fits.
+    fn gates_where(&self, fits: impl Fn(&Board, GateNumber) -> bool) -> Vec<bool> {
+        (0..self.board.gates.len()).map(|gate| fits(&self.board, GateNumber(gate as u16))).collect()
+    }
+
+    fn pick_gate_where(&mut self, fits: impl Fn(&Board, GateNumber) -> bool) -> Option<u16> {
+        let right = self.gates_where(fits);
+        self.pick_gate(|number, _| right[usize::from(number.0)])
+    }
+
+    /// The gate's booking, if there is such a gate and it is out.
+    fn booking(&self, gate: u16) -> Option<Booking> {
+        self.board.bookings.get(usize::from(gate)).copied().flatten()
+    }
+
+    /// A paper of the pool, and sometimes one that some gate is out under, or
+    /// any.
+    fn any_paper(&mut self) -> u16 {
+        let from_pool = self.rng.pick(&self.papers);
+        let gate = self.pick_gate_where(|board, gate| board.booking(gate).is_some());
+        let booked = gate.and_then(|gate| self.booking(gate)).map_or(from_pool, |one| one.paper.0);
+        let any = self.rng.between(1, 9999);
+        self.rng.pick(&[from_pool, from_pool, from_pool, booked, any, 1, 9999])
+    }
+
+    fn other_paper(&mut self, paper: u16) -> u16 {
+        let other = self.any_paper();
+        if other != paper {
+            other
+        } else if paper < 9999 {
+            paper + 1
+        } else {
+            paper - 1
+        }
+    }
+
+    /// A plain signal that isn't out, best one that some pending authority
+    /// needs.
+    fn good_book_out(&mut self) -> [u16; 4] {
+        let blocked = self.board.blocked;
+        let free = |board: &Board, gate: GateNumber| board.gate(gate).is_plain() && board.booking(gate).is_none();
+        let mut gate = None;
+        if self.rng.chance(70) {
+            if let Some(one) = self.pick_live(|one| one.is_pending() && !one.needs.all_in(blocked)) {
+                gate = self.pick_gate_where(|board, number| one.needs.hold(number) && free(board, number));
+            }
+        }
+        let gate = gate.or_else(|| self.pick_gate_where(free)).unwrap_or_else(|| self.any_gate());
+        [gate, self.any_paper(), 0, 0]
+    }
+
+    /// A gate that is out, to be restored or kept out under a new paper; for 25
+    /// one whose block is on, to be restored.
+    fn good_book_in(&mut self, want: u16) -> [u16; 4] {
+        let (blocked, needed) = (self.board.blocked, self.needed_in_force());
+        let out = |board: &Board, gate: GateNumber| board.booking(gate).is_some();
+        let restore = want == 25 || self.rng.chance(45);
+        let mut gate = None;
+        if want == 25 {
+            // best one that an authority in force needs, or that none needs
+            let in_need = self.rng.chance(60);
+            gate = self
+                .pick_gate_where(|board, gate| out(board, gate) && blocked.hold(gate) && (needed >> gate.0 & 1 == 1) == in_need)
+                .or_else(|| self.pick_gate_where(|board, gate| out(board, gate) && blocked.hold(gate)));
+        } else if restore {
+            gate = self.pick_gate_where(|board, gate| out(board, gate) && !blocked.hold(gate));
+        } else if self.rng.chance(50) {
+            // one that has been kept out before, or whose block is on
+            let renewed = self.rng.chance(50);
+            let again = |one: Option<Booking>| one.is_some_and(|one| one.replaced.is_some());
+            gate = self.pick_gate_where(|board, gate| {
+                if renewed { again(board.booking(gate)) } else { out(board, gate) && blocked.hold(gate) }
+            });
+        }
+        let gate = gate.or_else(|| self.pick_gate_where(out)).unwrap_or_else(|| self.any_gate());
+        let booked = self.booking(gate);
+        let paper = booked.map_or_else(|| self.any_paper(), |one| one.paper.0);
+        if restore && (want == 25 || !blocked.hold(GateNumber(gate))) {
+            return [gate, paper, 1, 0];
+        }
+        // sometimes back to the paper that was replaced
+        let new = match booked.and_then(|one| one.replaced) {
+            Some(Paper(replaced)) if replaced != paper && self.rng.chance(20) => replaced,
+            _ => self.other_paper(paper),
+        };
+        [gate, paper, 0, new]
+    }
+
+    /// BOOK IN with a combination that is refused, or a field out of range.
+    fn spoil_combination(&mut self, fields: &mut [u16; 4]) {
+        let paper = fields[1];
+        let other = self.other_paper(paper);
+        match self.rng.below(10) {
+            0 => [fields[2], fields[3]] = [1, other],
+            1 => [fields[2], fields[3]] = [1, paper],
+            2 => [fields[2], fields[3]] = [1, self.out_of_range(Role::NewPaper)],
+            3 => [fields[2], fields[3]] = [0, 0],
+            4 | 5 => [fields[2], fields[3]] = [0, paper],
+            6 => [fields[2], fields[3]] = [0, self.out_of_range(Role::NewPaper)],
+            7 => [fields[2], fields[3]] = [self.out_of_range(Role::Certified), 0],
+            8 => [fields[2], fields[3]] = [self.out_of_range(Role::Certified), other],
+            _ => fields[1] = self.out_of_range(Role::Paper),
+        }
+    }
+
+    /// BOOK IN of a paper that isn't the one booked.
+    fn spoil_paper(&mut self, fields: &mut [u16; 4]) {
+        let blocked = self.board.blocked;
+        let out = |board: &Board, gate: GateNumber| board.booking(gate).is_some();
+        let how = self.rng.below(9);
+        let gate = match how {
+            // not out, or of another kind
+            0 | 1 => self.pick_gate_where(|board, gate| board.gate(gate).is_plain() && !out(board, gate)),
+            2 => self.pick_gate_where(|board, gate| !board.gate(gate).is_plain()),
+            3 => self.pick_gate_where(|board, gate| !board.gate(gate).is_plain() && blocked.hold(gate)),
+            // the paper that was replaced
+            4 | 5 => self.pick_gate_where(|board, gate| board.booking(gate).is_some_and(|one| one.replaced.is_some())),
+            // with the block on
+            6 => self.pick_gate_where(|board, gate| out(board, gate) && blocked.hold(gate)),
+            _ => self.pick_gate_where(out),
+        };
+        let Some(gate) = gate else {
+            return;
+        };
+        fields[0] = gate;
+        let booked = self.booking(gate);
+        fields[1] = match booked {
+            Some(Booking { replaced: Some(Paper(replaced)), .. }) if how == 4 || how == 5 => replaced,
+            Some(Booking { paper: Paper(paper), .. }) => {
+                // another gate's, or another
+                let else_where = self.pick_gate_where(|board, other| {
+                    other.0 != gate && board.booking(other).is_some_and(|one| one.paper.0 != paper)
+                });
+                let theirs = else_where.and_then(|other| self.booking(other)).map(|one| one.paper.0);
+                match theirs {
+                    Some(theirs) if self.rng.chance(50) => theirs,
+                    _ => self.other_paper(paper),
+                }
+            }
+            None => self.any_paper(),
+        };
+        if self.rng.chance(60) {
+            [fields[2], fields[3]] = [1, 0];
+        } else {
+            [fields[2], fields[3]] = [0, self.other_paper(fields[1])];
+        }
     }
 
     fn good_grant(&mut self, want: u16) -> [u16; 4] {
@@ -914,6 +1084,14 @@ impl Driver {
                 let [other, ..] = self.two(|_| true);
                 [one, other, officer, self.any(Role::Distance)]
             }
+            16 => [self.any_gate(), self.any_paper(), 0, 0],
+            17 => {
+                let gate = self.any(Role::Gate);
+                let booked = self.booking(gate);
+                let paper = booked.map_or_else(|| self.any_paper(), |one| one.paper.0);
+                let new = if self.rng.chance(50) { 0 } else { self.other_paper(paper) };
+                [gate, paper, u16::from(new == 0), new]
+            }
             1 => self.good_request(),
             _ => self.two(|_| true),
         }
@@ -984,6 +1162,15 @@ impl Driver {
                     self.bad_distance()
                 }
             }
+            Role::Paper => self.any_paper(),
+            Role::Certified => self.rng.between(0, 1),
+            Role::NewPaper => {
+                if self.rng.chance(40) {
+                    0
+                } else {
+                    self.any_paper()
+                }
+            }
             Role::Unused => 0,
         }
     }
@@ -1005,6 +1192,9 @@ impl Driver {
             Role::Length => 0,
             // none is: 24 is for it
             Role::Distance => self.rng.pick(&[0, 65535]),
+            Role::Paper => self.rng.pick(&[0, 0, 10000, 10000, 10001, 65535]),
+            Role::Certified => self.rng.pick(&[2, 2, 3, 256, 257, 65535]),
+            Role::NewPaper => self.rng.pick(&[10000, 10000, 10001, 65535]),
             Role::Unused => self.rng.pick(&[1, 1, 2, 7, 256, 65535]),
         }
     }
@@ -1036,6 +1226,20 @@ impl Driver {
                 match self.rng.below(12) {
                     0 | 1 => stamp = self.bad_stamp(),
                     2 if call == 1 => fields.swap(1, 2),
+                    2..=5 if call == 16 => {
+                        fields = self.good_book_out();
+                        fields[1] = self.out_of_range(Role::Paper);
+                    }
+                    2..=9 if call == 17 => {
+                        // half of them where nothing else is wrong
+                        let blocked = self.board.blocked;
+                        let out = self.pick_gate_where(|board, gate| board.booking(gate).is_some() && !blocked.hold(gate));
+                        if let (Some(gate), true) = (out, self.rng.chance(50)) {
+                            fields[0] = gate;
+                            fields[1] = self.booking(gate).map_or(1, |one| one.paper.0);
+                        }
+                        self.spoil_combination(&mut fields);
+                    }
                     _ => {
                         let at = self.rng.below(4);
                         fields[at] = self.out_of_range(roles[at]);
@@ -1043,6 +1247,7 @@ impl Driver {
                 }
             }
             4 => stamp = self.earlier_stamp(),
+            5 if call == 17 => self.spoil_paper(&mut fields),
             5 => {
                 let at = if call == 3 || call == 11 || call == 15 { self.rng.below(2) } else { 0 };
                 fields[at] = self.dead_number();
@@ -1072,6 +1277,31 @@ impl Driver {
             6 if call == 14 => fields[0] = self.two(|one| !is_pending_lpa(one))[0],
             8 if call == 14 => fields[0] = self.two(|one| is_pending_lpa(one) && one.term.is_some())[0],
             8 if call == 9 => fields[2] = fields[1],
+            8 if call == 16 => {
+                let out = self.pick_gate_where(|board, gate| board.booking(gate).is_some());
+                fields[0] = out.unwrap_or(fields[0]);
+                if let Some(one) = self.booking(fields[0]).filter(|_| self.rng.chance(40)) {
+                    fields[1] = one.paper.0;
+                }
+            }
+            8 if call == 4 && self.rng.chance(40) => {
+                let blocked = self.board.blocked;
+                let out = self.pick_gate_where(|board, gate| board.booking(gate).is_some() && blocked.hold(gate));
+                fields[0] = out.unwrap_or(fields[0]);
+            }
+            10 if call == 4 => {
+                let plain = |board: &Board, gate: GateNumber| board.gate(gate).is_plain() && board.booking(gate).is_none();
+                fields[0] = self.pick_gate_where(plain).unwrap_or(fields[0]);
+            }
+            10 if call == 16 => {
+                let other = self.pick_gate_where(|board, gate| !board.gate(gate).is_plain());
+                fields[0] = other.unwrap_or(fields[0]);
+            }
+            16 if self.rng.chance(50) => {
+                let needed = self.needed_in_force();
+                let out = self.pick_gate_where(|board, gate| board.booking(gate).is_some() && needed >> gate.0 & 1 == 1);
+                fields[0] = out.unwrap_or(fields[0]);
+            }
             11 => {
                 // one that still needs a gate, for GRANT or as the new one
                 let blocked = self.board.blocked;
@@ -1210,14 +1440,15 @@ impl Driver {
     }
 
     fn no_such_call(&mut self) -> [u16; 7] {
-        let like = self.rng.between(1, 15);
+        let like = self.rng.between(1, 17);
         let mut numbers = if self.rng.chance(30) { self.candidate(like, 0) } else { self.muddled(like) };
-        numbers[2] = self.rng.pick(&[0, 0, 16, 16, 17, 18, 99, 256 + like, 65535]);
+        numbers[2] = self.rng.pick(&[0, 0, 18, 18, 19, 20, 99, 256 + like, 65535]);
         numbers
     }
 
     /// The call, or first the same in the minute before or after the term of
-    /// the LPA that it would put in force, or with another distance.
+    /// the LPA that it would put in force, or with another distance, or with a
+    /// combination or a paper that BOOK IN refuses.
     fn settled(&mut self, numbers: [u16; 7]) -> [u16; 7] {
         if self.rng.chance(40) {
             if let Some(outside) = self.just_outside(&numbers) {
@@ -1229,10 +1460,20 @@ impl Driver {
     }
 
     /// A GRANT or CONTINUE to an LPA that has a term, put just outside it; a
-    /// JOIN with a distance that is refused.
+    /// JOIN with a distance that is refused; a BOOK IN that is refused.
     fn just_outside(&mut self, numbers: &[u16; 7]) -> Option<[u16; 7]> {
         if let [day, time, 15, twa, toa, officer, _] = *numbers {
             return Some([day, time, 15, twa, toa, officer, self.bad_distance()]);
+        }
+        if let [day, time, 17, gate, paper, certified, new] = *numbers {
+            let mut fields = [gate, paper, certified, new];
+            if self.rng.chance(60) {
+                self.spoil_combination(&mut fields);
+            } else {
+                fields[1] = self.other_paper(paper);
+            }
+            let [gate, paper, certified, new] = fields;
+            return Some([day, time, 17, gate, paper, certified, new]);
         }
         let authority = match numbers[2] {
             6 => numbers[3],
@@ -1271,7 +1512,7 @@ impl Driver {
         if self.rng.chance(75) {
             for _ in 0..6 {
                 let full = self.board.live.len() == MOST_LIVE;
-                let help = self.rng.pick(&[6, 6, 4, 4, 13, 12, 12, 14, if full { 2 } else { 1 }]);
+                let help = self.rng.pick(&[6, 6, 4, 4, 13, 12, 12, 14, 16, 16, if full { 2 } else { 1 }]);
                 let other = self.candidate(help, 0);
                 if self.answer(&other) == 0 {
                     return self.settled(other);
@@ -1334,10 +1575,11 @@ impl Driver {
     }
 }
 
-/// More than the calls that `ask` makes: REQUEST, and BLOCK of every gate.
-const ROOM: usize = 70;
+/// More than the calls that `ask` makes: REQUEST, and BOOK OUT and BLOCK of every
+/// gate.
+const ROOM: usize = 140;
 
-const AMONG_OURS: Mood = [12, 2, 10, 0, 0, 22, 8, 6, 3, 8, 14, 12, 6, 0, 26];
+const AMONG_OURS: Mood = [12, 2, 10, 0, 0, 22, 8, 6, 3, 8, 14, 12, 6, 0, 26, 0, 4];
 
 impl Driver {
     /// Calls among some TOAs and TWAs over the same few portions: asked for,
@@ -1369,7 +1611,7 @@ impl Driver {
     }
 
     /// REQUEST of a TOA or a TWA over these limits, a little more or less, and
-    /// BLOCK of what it needs.
+    /// BLOCK of what it needs, plain signals booked out first.
     fn ask_near(&mut self, first: u16, last: u16, list: &mut Vec<[u16; 7]>) {
         let most = self.board.portions - 1;
         let (low, high) = match self.rng.below(6) {
@@ -1436,6 +1678,16 @@ impl Driver {
             13 => {
                 let parted = |train: &Train| train.head != train.rear && train.touches(here);
                 [self.pick_train(parted)?.number.0, 0, 0, 0]
+            }
+            17 => {
+                // of a gate into it, which may be needed
+                let gate = self.pick_gate_where(|board, gate| board.booking(gate).is_some() && here.hold(board.gate(gate).to))?;
+                let paper = self.booking(gate)?.paper.0;
+                if self.rng.chance(40) {
+                    [gate, paper, 1, 0]
+                } else {
+                    [gate, paper, 0, self.other_paper(paper)]
+                }
             }
             _ => return None,
         })
@@ -1600,8 +1852,8 @@ impl Driver {
         self.add(10, [authority, officer, 7, 0], list);
     }
 
-    /// REQUEST, and BLOCK of what the authority needs; its number, if a place
-    /// and a number were free.
+    /// REQUEST, and BLOCK of what the authority needs, plain signals booked out
+    /// first; its number, if a place and a number were free.
     fn ask(&mut self, fields: [u16; 4], list: &mut Vec<[u16; 7]>) -> Option<u16> {
         if self.add(1, fields, list) != 0 {
             return None;
@@ -1609,6 +1861,10 @@ impl Driver {
         let needed = self.board.needed_gates(Portions::first_to_last(fields[1], fields[2]));
         for gate in 0..self.board.gates.len() as u16 {
             if needed.hold(GateNumber(gate)) && !self.board.blocked.hold(GateNumber(gate)) {
+                if !self.board.can_be_blocked(GateNumber(gate)) {
+                    let paper = self.any_paper();
+                    self.add(16, [gate, paper, 0, 0], list);
+                }
                 self.add(4, [gate, 0, 0, 0], list);
             }
         }
@@ -1621,11 +1877,7 @@ impl Driver {
         for _ in 0..20 {
             let limits = Portions::first_to_last(fields[1], fields[2]);
             let taken = self.board.live.iter().any(|one| one.is_in_force() && one.limits.share(limits));
-            let needed = self.board.needed_gates(limits);
-            let open = (0..self.board.gates.len()).any(|gate| {
-                needed.hold(GateNumber(gate as u16)) && !self.board.gates[gate].can_be_blocked()
-            });
-            if !taken && !open && !self.board.is_touched(limits) {
+            if !taken && !self.board.is_touched(limits) {
                 break;
             }
             fields = self.good_request();
@@ -1634,7 +1886,7 @@ impl Driver {
     }
 
     /// An LPA with a term, in force if that can be, and then three calls within
-    /// ten minutes of its end.
+    /// ten minutes of its end, HAND OVER or about bookings.
     fn possession(&mut self, list: &mut Vec<[u16; 7]>) {
         if self.board.live.len() == MOST_LIVE {
             if let Some(one) = self.pick_live(|_| true) {
@@ -1660,11 +1912,33 @@ impl Driver {
         left.sort();
         for left in left.into_iter().rev() {
             let minute = end + 10 - left;
+            if self.rng.chance(50) && self.book_at(stamp_of(minute), list) {
+                continue;
+            }
             let other = self.other_officer(officer);
             if self.add_at(stamp_of(minute), 9, [authority, officer, other, 0], list) == 0 {
                 officer = other;
             }
         }
+    }
+
+    /// BOOK OUT or BOOK IN of a plain signal with this stamp, mostly accepted, if
+    /// there is one.
+    fn book_at(&mut self, stamp: Stamp, list: &mut Vec<[u16; 7]>) -> bool {
+        let blocked = self.board.blocked;
+        let restored = |board: &Board, gate: GateNumber| board.booking(gate).is_some() && !blocked.hold(gate);
+        let restorable = if self.rng.chance(60) { self.pick_gate_where(restored) } else { None };
+        let Some(gate) = restorable.or_else(|| self.pick_gate_where(|board, gate| board.gate(gate).is_plain())) else {
+            return false;
+        };
+        let (call, fields) = match self.booking(gate) {
+            None => (16, [gate, self.any_paper(), 0, 0]),
+            Some(_) if self.rng.chance(10) => (16, [gate, self.any_paper(), 0, 0]),
+            Some(one) if restorable.is_some() || self.rng.chance(20) => (17, [gate, one.paper.0, 1, 0]),
+            Some(one) => (17, [gate, one.paper.0, 0, self.other_paper(one.paper.0)]),
+        };
+        self.add_at(stamp, call, fields, list);
+        true
     }
 
     /// A TOA over all portions, or all but one, and TWAs in it that its officer
@@ -2096,6 +2370,156 @@ impl Driver {
     }
 }
 
+/// Few calls, most of them about bookings: 64 gates, all or many of them plain,
+/// booked out one after the other, kept out, restored and out again; or a short
+/// line with plain signals that protect what comes into force.
+fn bookings(mut rng: Rng) -> (Vec<u8>, Vec<u8>) {
+    let about = rng.below(10);
+    let plan = match about {
+        0..=4 => Plan::plain_entries(&mut rng),
+        _ => Plan::plain_line(&mut rng),
+    };
+    let mut driver = Driver::new(rng, &plan);
+    let mut list = Vec::new();
+    match about {
+        0..=4 => driver.book_many(&mut list),
+        _ => driver.book_for_work(&mut list),
+    }
+    list.truncate(FEW);
+    (plan.text(), text_of(&list))
+}
+
+impl Plan {
+    /// P 64, G 64, all gates plain or most of them; gates 0 and 63 always.
+    fn plain_entries(rng: &mut Rng) -> Plan {
+        let plain = rng.pick(&[100, 100, 80, 30]);
+        let mut plan = Plan { portions: 64, gates: (0..64).map(|to| [OUTSIDE, to, PLAIN]).collect() };
+        plan.shuffle(rng);
+        for gate in &mut plan.gates[1..63] {
+            if !rng.chance(plain) {
+                gate[2] = rng.between(1, 3);
+            }
+        }
+        plan
+    }
+
+    /// Two to eight portions in a row, both ways, most gates plain.
+    fn plain_line(rng: &mut Rng) -> Plan {
+        let mut plan = Plan::open_line(rng);
+        for gate in &mut plan.gates {
+            if rng.chance(75) {
+                gate[2] = PLAIN;
+            }
+        }
+        plan
+    }
+}
+
+impl Driver {
+    /// The call that is wanted, if it is found soon.
+    fn add_wanted(&mut self, call: u16, want: u16, list: &mut Vec<[u16; 7]>) {
+        for _ in 0..12 {
+            let numbers = self.candidate(call, want);
+            if self.answer(&numbers) == want {
+                self.apply(&numbers);
+                list.push(numbers);
+                return;
+            }
+        }
+    }
+
+    /// Gates booked out by rising, falling or mixed numbers, some or all of them
+    /// or only those at the ends, and then calls about bookings.
+    fn book_many(&mut self, list: &mut Vec<[u16; 7]>) {
+        let mut gates: Vec<u16> = match self.rng.below(6) {
+            0 => vec![63],
+            1 => vec![0, 63],
+            2 => vec![0, 1, 31, 32, 62, 63],
+            _ => (0..64).collect(),
+        };
+        match self.rng.below(4) {
+            0 => gates.reverse(),
+            1 => self.rng.shuffle(&mut gates),
+            _ => {}
+        }
+        let one_paper = self.rng.chance(20);
+        let only = self.any_paper();
+        for gate in gates {
+            let paper = if one_paper { only } else { self.any_paper() };
+            self.add(16, [gate, paper, 0, 0], list);
+        }
+        while list.len() < FEW {
+            match self.rng.below(20) {
+                0..=5 => {
+                    let paper = |driver: &Driver, gate| driver.booking(gate).map_or(1, |one| one.paper.0);
+                    let gate = self.rng.pick(&[0, 63, 63, 31, 32]);
+                    let old = paper(self, gate);
+                    let fields = match self.rng.below(4) {
+                        0 => [gate, old, 1, 0],
+                        _ => [gate, old, 0, self.other_paper(old)],
+                    };
+                    self.add(17, fields, list);
+                }
+                6..=9 => self.add_wanted(17, 0, list),
+                10 => self.add_wanted(16, 0, list),
+                11 | 12 => self.add_wanted(4, 0, list),
+                13 => self.add_wanted(5, 0, list),
+                14 => {
+                    let call = self.rng.pick(&[4, 4, 16]);
+                    let want = if call == 4 { self.rng.pick(&[8, 10]) } else { self.rng.pick(&[3, 4, 8, 10]) };
+                    self.add_wanted(call, want, list);
+                }
+                15..=17 => {
+                    let want = self.rng.pick(&[3, 3, 4, 5, 5, 25, 25]);
+                    self.add_wanted(17, want, list);
+                }
+                _ => {
+                    self.mood = BOOKINGS;
+                    let numbers = self.next_call();
+                    self.apply(&numbers);
+                    list.push(numbers);
+                }
+            }
+        }
+    }
+
+    /// Authorities asked for, their plain signals booked out and blocked, and
+    /// then calls of which many are about bookings, while they are in force and
+    /// when they end or continue.
+    fn book_for_work(&mut self, list: &mut Vec<[u16; 7]>) {
+        while list.len() < FEW {
+            let (first, last) = self.free_limits();
+            let officer = self.any_officer();
+            let kind = self.rng.pick(&[2, 2, 3]);
+            if self.rng.chance(60) {
+                if let Some(one) = self.ask([kind, first, last, officer], list) {
+                    let old = self.pick_live(|one| one.is_in_force()).filter(|_| self.rng.chance(40));
+                    match old {
+                        Some(old) => self.add(11, [old.number.0, one, old.officer, officer], list),
+                        None => self.add(6, [one, officer, 0, 0], list),
+                    };
+                }
+            }
+            for _ in 0..4 + self.rng.below(12) {
+                self.mood = self.rng.pick(&[BOOKINGS, BOOKINGS, BOOKINGS, TRAFFIC, RENEW, WIND_DOWN]);
+                match self.rng.below(10) {
+                    0 | 1 => self.add_wanted(17, 25, list),
+                    2 => self.add_wanted(5, 16, list),
+                    3 | 4 => self.add_wanted(17, 0, list),
+                    _ => {
+                        let numbers = self.next_call();
+                        self.apply(&numbers);
+                        list.push(numbers);
+                    }
+                }
+            }
+            if let Some(one) = self.pick_live(|one| one.is_in_force()).filter(|_| self.rng.chance(30)) {
+                self.end(&one, list);
+            }
+        }
+    }
+}
+
 /// Random numbers, mostly small.
 fn wild(mut rng: Rng) -> (Vec<u8>, Vec<u8>) {
     let plan = Plan::random(&mut rng);
@@ -2116,7 +2540,7 @@ fn wild(mut rng: Rng) -> (Vec<u8>, Vec<u8>) {
             numbers[0] = 0;
         }
         if rng.chance(90) {
-            numbers[2] = rng.between(1, 15);
+            numbers[2] = rng.between(1, 17);
             let roles = roles(numbers[2]);
             for (number, role) in numbers[3..].iter_mut().zip(roles) {
                 if role == Role::Unused && rng.chance(90) {
@@ -2278,7 +2702,7 @@ fn text_of(list: &[[u16; 7]]) -> Vec<u8> {
 // A busy board
 // ---------------------------------------------------------------------------
 
-const BUSY: Mood = [3, 3, 7, 8, 8, 6, 8, 8, 8, 4, 5, 24, 16, 2, 4];
+const BUSY: Mood = [3, 3, 7, 8, 8, 6, 8, 8, 8, 4, 5, 24, 16, 2, 4, 5, 7];
 
 /// Writes as it goes, since the list may be long; prints to standard error how
 /// busy the board is at ten points.
@@ -2399,7 +2823,7 @@ fn seeded(seed: u64, kind: &str) -> Rng {
 }
 
 fn run(arguments: &[String]) -> Result<(), String> {
-    let usage = "usage: generate SEED steered|numbers|damaged|short|wild|shift|limits|trains OUTDIR, or generate SEED busy N OUTDIR";
+    let usage = "usage: generate SEED steered|numbers|damaged|short|wild|shift|limits|trains|bookings OUTDIR, or generate SEED busy N OUTDIR";
     let (seed, kind, folder) = match arguments {
         [seed, kind, .., folder] => (seed, kind.as_str(), Path::new(folder)),
         _ => return Err(usage.to_string()),
@@ -2414,6 +2838,7 @@ fn run(arguments: &[String]) -> Result<(), String> {
         ("shift", 3) => shift(rng),
         ("limits", 3) => limits(rng),
         ("trains", 3) => trains(rng),
+        ("bookings", 3) => bookings(rng),
         ("busy", 4) => {
             let count = arguments[2].parse().map_err(|_| usage)?;
             return busy(rng, count, folder).map_err(|error| error.to_string());

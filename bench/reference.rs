@@ -1,10 +1,11 @@
-//! The track authority board, read from 01-scope.md and orders 1 to 5 of
+//! The track authority board, read from 01-scope.md and orders 1 to 6 of
 //! 02-change-requests.md and from nothing else.
 //!
 //! A plain program: it reads the files `plan` and `calls` in the working
 //! folder and prints the journal on standard output; with the argument `sheet`
 //! it prints order 2's shift sheet instead, and with `held` the live
-//! authorities and the trains that the register then holds, in its order.
+//! authorities, the trains and the bookings that the register then holds, in its
+//! order.
 //! Quotation marks in the comments hold the papers' own words; what isn't
 //! marked as an order's is 01's. Each call is one function of the board; its
 //! conditions for refusal are tested in ascending order of their numbers,
@@ -37,6 +38,8 @@ pub const NOTICE: u32 = 7 * DAY;
 /// Order 4: "three railway track signals at 500 to 1000 m".
 pub const LEAST_DISTANCE: u16 = 500;
 pub const MOST_DISTANCE: u16 = 1000;
+/// "4 plain automatic signal".
+pub const PLAIN: u16 = 4;
 
 /// A number takes 6 columns; a plan line is 19 bytes, a call line 43 and a
 /// journal line 55.
@@ -86,6 +89,8 @@ pub enum Refusal {
     ShortSheet = 23,
     /// Order 4 gives 24 no word.
     Distance = 24,
+    /// Order 6 gives 25 no word.
+    BlockOn = 25,
 }
 
 fn refuse_if(condition: bool, refusal: Refusal) -> Result<(), Refusal> {
@@ -108,6 +113,10 @@ pub struct AuthorityNumber(pub u16);
 pub struct TrainNumber(pub u16);
 #[derive(Clone, Copy, PartialEq, Eq, Debug)]
 pub struct GateNumber(pub u16);
+
+/// Order 6: the number of a paper.
+#[derive(Clone, Copy, PartialEq, Eq, Debug)]
+pub struct Paper(pub u16);
 
 /// A portion below P, or outside; "outside is no portion".
 #[derive(Clone, Copy, PartialEq, Eq, Debug)]
@@ -224,10 +233,19 @@ pub struct Gate {
 }
 
 impl Gate {
-    /// "Kinds 1 to 3 can be blocked, kind 4 can't."
-    pub fn can_be_blocked(&self) -> bool {
-        self.kind != 4
+    /// "4 plain automatic signal"
+    pub fn is_plain(&self) -> bool {
+        self.kind == PLAIN
     }
+}
+
+/// Order 6: what is held of a gate that is "booked out of use".
+#[derive(Clone, Copy, PartialEq, Eq, Debug)]
+pub struct Booking {
+    /// "the one booked"
+    pub paper: Paper,
+    /// "the number of the paper just replaced beside it"; none after BOOK OUT
+    pub replaced: Option<Paper>,
 }
 
 #[derive(Clone, Copy, PartialEq, Eq, Debug)]
@@ -405,6 +423,11 @@ fn train_in_range(train: u16) -> bool {
     (1..=9999).contains(&train)
 }
 
+/// Order 6: "paper 1 to 9999", and so too the new paper that keeps a gate out.
+fn paper_in_range(paper: u16) -> bool {
+    (1..=9999).contains(&paper)
+}
+
 // ---------------------------------------------------------------------------
 // The board
 // ---------------------------------------------------------------------------
@@ -423,6 +446,9 @@ pub struct Board {
     pub last_stamp: Stamp,
     pub last_number: u16,
     pub blocked: Gates,
+    /// Order 6: for each gate, in the plan's order, its booking while it is out;
+    /// "Bookings count when registers are compared."
+    pub bookings: Vec<Option<Booking>>,
     /// the live authorities, at most 32, "by ascending number": a new one has
     /// the highest and goes to the end, and when one ends the others keep their
     /// order
@@ -468,10 +494,11 @@ impl Board {
     }
 
     /// "A freshly opened board has no authority, no train, no block, last stamp
-    /// day 0 time 0, last number 0."
+    /// day 0 time 0, last number 0." Nor has it a booking: BOOK OUT makes them.
     fn fresh(portions: u16, gates: Vec<Gate>) -> Board {
         Board {
             portions,
+            bookings: vec![None; gates.len()],
             gates,
             last_stamp: Stamp { day: 0, time: 0 },
             last_number: 0,
@@ -507,6 +534,8 @@ impl Board {
             13 => self.passed(stamp, a, b, c, d),
             14 => self.term(stamp, a, b, c, d),
             15 => self.join(stamp, a, b, c, d),
+            16 => self.book_out(stamp, a, b, c, d),
+            17 => self.book_in(stamp, a, b, c, d),
             // 2; order 1: "for a number that no call has"
             _ => Err(Refusal::NoSuchCall),
         };
@@ -594,7 +623,7 @@ impl Board {
         Ok(0)
     }
 
-    /// 4 BLOCK gate {8; 10}.
+    /// 4 BLOCK gate {8; 10}. Order 6: "10 at BLOCK", now follows "the booking".
     fn block(&mut self, stamp: Stamp, gate: u16, b: u16, c: u16, d: u16) -> Result<u16, Refusal> {
         // 3 "a range above, or an unused field not 0"
         self.fields(stamp, self.gate_in_range(gate) && b == 0 && c == 0 && d == 0)?;
@@ -603,8 +632,8 @@ impl Board {
         // 8 "already in that position"
         let number = GateNumber(gate);
         refuse_if(self.blocked.hold(number), Refusal::AlreadySo)?;
-        // 10 "gate of kind 4"
-        refuse_if(!self.gate(number).can_be_blocked(), Refusal::NoFacility)?;
+        // 10 "gate of kind 4", by order 6 only while it isn't out
+        refuse_if(!self.can_be_blocked(number), Refusal::NoFacility)?;
 
         self.blocked.add(number);
         Ok(0)
@@ -933,6 +962,54 @@ impl Board {
         Ok(0)
     }
 
+    /// 16 BOOK OUT gate, paper {8 "if out"; 10 "for another kind"}: "gate of
+    /// kind 4", "paper 1 to 9999".
+    fn book_out(&mut self, stamp: Stamp, gate: u16, paper: u16, c: u16, d: u16) -> Result<u16, Refusal> {
+        // 3 "a range above": "paper 1 to 9999"; "or an unused field not 0"
+        self.fields(stamp, self.gate_in_range(gate) && paper_in_range(paper) && c == 0 && d == 0)?;
+        // 4
+        self.clock(stamp)?;
+        // 8 "if out"
+        let number = GateNumber(gate);
+        refuse_if(self.booking(number).is_some(), Refusal::AlreadySo)?;
+        // 10 "for another kind"
+        refuse_if(!self.gate(number).is_plain(), Refusal::NoFacility)?;
+
+        // "booked out of use", under this paper, which replaces none. Blocks
+        // stay as they are: this gate's is off.
+        self.bookings[usize::from(gate)] = Some(Booking { paper: Paper(paper), replaced: None });
+        Ok(0)
+    }
+
+    /// 17 BOOK IN gate, paper, certified, new paper {5 "if not the one booked";
+    /// 25}. It restores the gate or keeps it out under the new paper.
+    fn book_in(&mut self, stamp: Stamp, gate: u16, paper: u16, certified: u16, new_paper: u16) -> Result<u16, Refusal> {
+        // "Certified 1 with new paper 0 restores the gate."
+        let restores = certified == 1 && new_paper == 0;
+        // "Certified 0 with a new paper other than the call's paper, 1 to 9999,
+        // keeps it out under the new one": other than the one in the call,
+        // whatever is booked.
+        let keeps_out = certified == 0 && paper_in_range(new_paper) && new_paper != paper;
+        // 3 "a range above": gate, and a paper is "1 to 9999"; "Other
+        // combinations are refused 3."
+        self.fields(stamp, self.gate_in_range(gate) && paper_in_range(paper) && (restores || keeps_out))?;
+        // 4
+        self.clock(stamp)?;
+        // 5 "if not the one booked", so too if none is
+        let number = GateNumber(gate);
+        let booked = self.booking(number).map(|one| one.paper);
+        refuse_if(booked != Some(Paper(paper)), Refusal::NotLive)?;
+        // 25 "when BOOK IN would restore a gate whose block is on, tested last"
+        refuse_if(restores && self.blocked.hold(number), Refusal::BlockOn)?;
+
+        // "restores the gate", or "keeps it out under the new one, with the
+        // number of the paper just replaced beside it". Blocks stay as they are:
+        // "Limits in force stay protected through both calls."
+        let kept_out = Booking { paper: Paper(new_paper), replaced: Some(Paper(paper)) };
+        self.bookings[usize::from(gate)] = keeps_out.then_some(kept_out);
+        Ok(0)
+    }
+
     // ----- the shift sheet -----
 
     /// Order 2: "A portion is held if an authority in force has it in its
@@ -973,7 +1050,9 @@ impl Board {
     /// are held, "by ascending number", "and print so". The papers give no page
     /// for it, so this is the panel's: the number of each authority, and each
     /// train's number, head (99 for outside), rear and the authority it is with
-    /// (0 for none), in 6 columns each, under two words.
+    /// (0 for none), in 6 columns each, under two words. Order 6: under a third
+    /// each gate that is out, by ascending number, with its paper and the one
+    /// that this replaced (0 for none).
     pub fn write_held(&self, output: &mut Vec<u8>) {
         output.extend_from_slice(b"authorities\n");
         for one in &self.live {
@@ -983,6 +1062,13 @@ impl Board {
         for one in &self.trains {
             let with = one.with.map_or(0, |number| number.0);
             write_line(&[one.number.0, one.head.number(), one.rear.number(), with], output);
+        }
+        output.extend_from_slice(b"bookings\n");
+        for (gate, booking) in self.bookings.iter().enumerate() {
+            if let Some(one) = booking {
+                let replaced = one.replaced.map_or(0, |paper| paper.0);
+                write_line(&[gate as u16, one.paper.0, replaced], output);
+            }
         }
     }
 
@@ -1012,6 +1098,17 @@ impl Board {
 
     pub fn gate(&self, gate: GateNumber) -> &Gate {
         &self.gates[usize::from(gate.0)]
+    }
+
+    /// Order 6: the gate's booking, if it is out.
+    pub fn booking(&self, gate: GateNumber) -> Option<Booking> {
+        self.bookings[usize::from(gate.0)]
+    }
+
+    /// "Kinds 1 to 3 can be blocked, kind 4 can't." Order 6: ""Can be blocked"
+    /// ... now follow the booking": kind 4 can while it is out.
+    pub fn can_be_blocked(&self, gate: GateNumber) -> bool {
+        !self.gate(gate).is_plain() || self.booking(gate).is_some()
     }
 
     /// "An authority needs each gate whose "to" is in its limits and whose
