@@ -1,7 +1,7 @@
--- `decode::is_new_paper` meets its contract. Assumes nothing.
+-- `fields::is_new_paper` meets its contract. Assumes nothing.
 use borrow.Author.Tests.{eq-eqb, ne-eqb}
-use Rattle.decode.proofs.is_new_paper.Statement.{statement}
-use Rattle.decode.proofs.is_new_paper.Tie as tie
+use Rattle.fields.proofs.is_new_paper.Statement.{statement}
+use Rattle.fields.proofs.is_new_paper.Tie as tie
 
 returns : tie.Need-returns
 returns c = rw (eq-eqb _ _ (c .if1 .taken))

@@ -1,12 +1,12 @@
--- `decode::is_in_range` meets its contract: in each arm the field's kind is known, and the definition is then the test.
+-- `fields::is_in_range` meets its contract: in each arm the field's kind is known, and the definition is then the test.
 -- Assumes nothing.
 use native.Mathlib.Omega.{arith}
 use mathlib.Core.Bool.{and-true}
 use borrow.Author.Needs.{needs}
 use borrow.Author.Tests.{le-leb}
 use Rattle.rules.specs.Call.{inRange}
-use Rattle.decode.proofs.is_in_range.Statement.{statement}
-use Rattle.decode.proofs.is_in_range.Tie as tie
+use Rattle.fields.proofs.is_in_range.Statement.{statement}
+use Rattle.fields.proofs.is_in_range.Tie as tie
 
 enum-told : tie.Need-enum-told
 enum-told c = search needs

@@ -1,8 +1,8 @@
--- `decode::is_in_form` meets its contract: the four tests are those of the definition. Assumes nothing.
+-- `fields::is_in_form` meets its contract: the four tests are those of the definition. Assumes nothing.
 use borrow.Author.Needs.{needs}
 use Rattle.rules.specs.Call.{inForm}
-use Rattle.decode.proofs.is_in_form.Statement.{statement}
-use Rattle.decode.proofs.is_in_form.Tie as tie
+use Rattle.fields.proofs.is_in_form.Statement.{statement}
+use Rattle.fields.proofs.is_in_form.Tie as tie
 
 is-in-range-requires : tie.Need-is-in-range-requires
 is-in-range-requires c κs = search needs
