@@ -9,8 +9,8 @@ ghost use Rattle.lists.specs.Places.{Holds};
 ghost use Rattle.rules.specs.Board.{isAuthority, isNotAuthority};
 ghost use Rattle.places.specs.Places.{authoritiesIn};
 ghost use Rattle.amendments.specs.Changes.{changeOf};
-use places::authority_at;
-use places::put_authority;
+use authority_places::authority_at;
+use authority_places::put_authority;
 use rules::Authority;
 use rules::AuthorityNo;
 

@@ -1,12 +1,10 @@
--- What single steps of the code leave. Only the contracts of private functions cite these. Assumes nothing.
+-- What opening leaves. Only the contract of a private function cites it. Assumes nothing.
 use Prim.Native.Nat.{ℕ}
 use mathlib.Core.List.{List}
 use lib.ListN.{replicate}
 use Rattle.rules.specs.declared.Gate.{Gate}
-use Rattle.rules.specs.declared.Seven.{Seven}
 use Rattle.rules.specs.declared.Register.{Register}
-use Rattle.rules.specs.Board.{Board, noBooking, noAuthority, noTrain}
-use Rattle.rules.specs.Refusals.{answer}
+use Rattle.rules.specs.Board.{noBooking, noAuthority, noTrain}
 
 -- the register of a freshly opened board
 abbrev pub freshWith : ℕ → ℕ → List Gate → Register
@@ -24,7 +22,3 @@ freshWith portions count gates = record {
   running = 0;
   trains = replicate 32 noTrain;
 }
-
--- the answer where the buffer is long enough
-abbrev pub withRoom : Board → Seven → ℕ
-withRoom b s = answer b s 55

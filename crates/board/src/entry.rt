@@ -4,20 +4,12 @@ ghost use mathlib.Core.List.{_++_};
 ghost use Prim.Native.Nat.{_≤_};
 ghost use lib.ListN.{length, drop};
 ghost use Rattle.rules.specs.Journal.{journalLine};
-ghost use Rattle.rules.specs.Call.{decoded};
-ghost use Rattle.rules.specs.Refusals.{early};
 ghost use Rattle.rules.specs.Step.{Kept, OpenPost, CallPost};
-ghost use Rattle.places.specs.Places.{HeadBounds, registerIn, boardIn};
-ghost use Rattle.board.specs.Lent.{TakePost};
-ghost use Rattle.board.specs.Faults.{faultOf};
-ghost use Rattle.board.specs.Steps.{freshWith, withRoom};
-use answers::answer_of;
-use effects::effect_of;
-use places::Head;
+ghost use Rattle.take.specs.Lent.{TakePost};
+ghost use Rattle.board.specs.Steps.{freshWith};
 use rules::Authority;
 use rules::AuthorityNo;
 use rules::Booking;
-use rules::Call;
 use rules::Called;
 use rules::Gate;
 use rules::Kind;
@@ -27,9 +19,6 @@ use rules::Register;
 use rules::Seven;
 use rules::Train;
 use rules::TrainNo;
-use rules::refusal::CLOCK;
-use rules::refusal::FIELD;
-use rules::refusal::NO_SUCH_CALL;
 use rules::refusal::PLAN;
 use rules::refusal::SHORT_LINE;
 
@@ -94,96 +83,6 @@ pub fn open(text: &[u8]) -> Opened
     }
 }
 
-// 2 or 3 where the seven numbers are no call, else 0.
-fn fault_of(c: Call) -> u16
-    ensures { λ x. ⌜ x ≡ faultOf c ⌝ }
-{
-    match c {
-        Call::NoSuchCall => NO_SUCH_CALL,
-        Call::BadField => FIELD,
-        _ => 0,
-    }
-}
-
-// 4: the stamp is before that of the last accepted call.
-fn is_early(
-    head: Head,
-    gates: &[u16; 320],
-    authorities: &[u64; 256],
-    trains: &[u16; 128],
-    s: Seven,
-) -> bool
-    ensures { λ x. ⌜ x ≡ early (boardIn head (now (gates .entry)) (now (authorities .entry)) (now (trains .entry))) s ⌝ }
-{
-    (s.day < head.day) | ((s.day == head.day) & (s.time < head.time))
-}
-
-// The answer to a call that has room for its line.
-fn answer(
-    head: Head,
-    gates: &[u16; 320],
-    authorities: &[u64; 256],
-    trains: &[u16; 128],
-    s: Seven,
-    c: Call,
-) -> u16
-    requires { ⌜ HeadBounds head × (c ≡ decoded (head .portions) (head .«gate_count») s) ⌝ }
-    ensures { λ x. ⌜ x ≡ withRoom (boardIn head (now (gates .entry)) (now (authorities .entry)) (now (trains .entry))) s ⌝ }
-{
-    let fault = fault_of(c);
-    if fault != 0 {
-        return fault;
-    }
-    if is_early(head, gates, authorities, trains, s) {
-        return CLOCK;
-    }
-    answer_of(head, gates, authorities, trains, s, c)
-}
-
-// What a call with room for its line leaves beside the arrays.
-pub struct Taken {
-    pub head: Head,
-    pub answer: u16,
-    pub number: u16,
-}
-
-// A call that has room for its line, on a register's head and arrays.
-pub fn take(
-    head: Head,
-    gates: &mut [u16; 320],
-    authorities: &mut [u64; 256],
-    trains: &mut [u16; 128],
-    s: Seven,
-) -> Taken
-    requires { ⌜ Kept (registerIn head (now gates) (now authorities) (now trains)) ⌝ }
-    ensures { λ out. ⌜ TakePost (registerIn head (now (gates .entry)) (now (authorities .entry)) (now (trains .entry))) s (registerIn (out .head) (now (gates .exit)) (now (authorities .exit)) (now (trains .exit))) (out .answer) (out .number) ⌝ }
-{
-    let c = decode::decode(head.portions, head.gate_count, s);
-    let refusal = answer(head, gates, authorities, trains, s, c);
-    if refusal != 0 {
-        return Taken {
-            head,
-            answer: refusal,
-            number: 0,
-        };
-    }
-    let mut after = effect_of(head, gates, authorities, trains, s, c);
-    after.day = s.day;
-    after.time = s.time;
-    if s.call == 1 {
-        return Taken {
-            head: after,
-            answer: 0,
-            number: head.last + 1,
-        };
-    }
-    Taken {
-        head: after,
-        answer: 0,
-        number: 0,
-    }
-}
-
 fn wide(n: u16) -> u32
     ensures { λ r. ⌜ r ≡ n ⌝ }
 {
@@ -220,7 +119,7 @@ fn take_whole(register: Register, seven: Seven) -> Called
     registers::write_gates(register, &mut gates);
     registers::write_authorities(register, &mut authorities);
     registers::write_trains(register, &mut trains);
-    let taken = take(
+    let taken = take::take(
         places::head_of(register),
         &mut gates,
         &mut authorities,

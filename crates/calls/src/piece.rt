@@ -42,7 +42,7 @@ fn run_lines(
         let Line::Call(seven) = read_line(&text[at..at + 43]) else {
             return RanHead { head: held, lines };
         };
-        let taken = board::take(held, gates, authorities, trains, seven);
+        let taken = take::take(held, gates, authorities, trains, seven);
         let to = 55 * lines;
         write_journal(
             &text[at..at + 43],

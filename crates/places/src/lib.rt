@@ -1,11 +1,8 @@
 // The places of a register's arrays as plain numbers: arrays that are lent, so that a place is read or stored without a copy of the register.
-mod authority;
 mod gate;
 mod head;
 mod train;
 
-pub use authority::authority_at;
-pub use authority::put_authority;
 pub use gate::booking_at;
 pub use gate::gate_at;
 pub use gate::put_gate;

@@ -1,11 +1,11 @@
 // A whole register put into the arrays of numbers, and read back from them.
 ghost use mathlib.Core.Path.{_≡_};
 ghost use Rattle.places.specs.Places.{gatesIn, bookingsIn, authoritiesIn, trainsIn, registerIn};
+use authority_places::authority_at;
+use authority_places::put_authority;
 use places::Head;
-use places::authority_at;
 use places::booking_at;
 use places::gate_at;
-use places::put_authority;
 use places::put_gate;
 use places::put_train;
 use places::train_at;

@@ -1,6 +1,6 @@
 -- `board::entry::call` meets its contract: a short buffer gives 1 and stays, else the call is taken and its line is written. Assumes nothing.
 use borrow.Author.Needs.{needs}
-use Rattle.board.proofs.Taking.{called-short, called-long}
+use Rattle.board.proofs.Calling.{called-short, called-long}
 use Rattle.board.proofs.entry.call.Statement.{statement}
 use Rattle.board.proofs.entry.call.Tie as tie
 

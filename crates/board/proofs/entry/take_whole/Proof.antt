@@ -4,7 +4,7 @@ use mathlib.Core.Path.{_≡_, sym, subst}
 use Rattle.rules.specs.Step.{Kept}
 use Rattle.places.specs.Places.{registerIn}
 use Rattle.places.proofs.Registers.{spread}
-use Rattle.board.proofs.Taking.{spread-refused, spread-taken}
+use Rattle.board.proofs.Calling.{spread-refused, spread-taken}
 use Rattle.board.proofs.entry.take_whole.Statement.{statement}
 use Rattle.board.proofs.entry.take_whole.Tie as tie
 

@@ -1,11 +1,12 @@
-// An authority in eight numbers: its number, kind, limits, officer, stage, site, agreed TOA, and its term: start times 65536, plus length.
+// An authority's place in its lent array, in eight numbers: its number, kind, limits, officer, stage, site, the authority whose agreement it rests on, and its
+// term: start times 65536, plus length. It is read or stored without a copy of the register.
 ghost use mathlib.Core.Path.{_≡_};
 ghost use mathlib.Core.Bool.{cond};
 ghost use Prim.Native.Nat.{_<_, _+_, _*_, _/_, _%_};
 ghost use lib.ListN.{getD, set};
 ghost use Rattle.rules.specs.Board.{noAuthority, kindNo};
 ghost use Rattle.rules.specs.Call.{kindOf};
 ghost use Rattle.places.specs.Places.{authoritiesIn};
 use rules::Authority;
 use rules::AuthorityNo;
 use rules::Kind;

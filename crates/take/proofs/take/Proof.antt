@@ -1,4 +1,4 @@
--- `board::entry::take` meets its contract: a refused call keeps its register, an accepted one gets its effect, its stamp and its number. Assumes nothing.
+-- `take::take` meets its contract: a refused call keeps its register, an accepted one gets its effect, its stamp and its number. Assumes nothing.
 use borrow.Author.Needs.{needs}
 use mathlib.Core.Path.{_≡_, sym, _∙_}
 use native.Mathlib.Omega.{arith}
@@ -7,9 +7,9 @@ use Rattle.rules.specs.Call.{named}
 use Rattle.rules.specs.Refusals.{lowest, own}
 use Rattle.places.proofs.Registers.{head-bounds}
 use Rattle.places.specs.Places.{boardIn}
-use Rattle.board.proofs.Taking.{head-decoded, accepted-own, taken-refused, taken-accepted, last-small, number-one, number-none}
-use Rattle.board.proofs.entry.take.Statement.{statement}
-use Rattle.board.proofs.entry.take.Tie as tie
+use Rattle.take.proofs.Taking.{head-decoded, accepted-own, taken-refused, taken-accepted, last-small, number-one, number-none}
+use Rattle.take.proofs.take.Statement.{statement}
+use Rattle.take.proofs.take.Tie as tie
 
 -- an accepted call is the one named, and none of its own conditions holds
 allowed : (c : tie.Else1) → let d = c .before .before .before .before .before in

@@ -1,4 +1,4 @@
--- `board::entry::fault_of` meets its contract. Assumes nothing.
+-- `take::fault_of` meets its contract. Assumes nothing.
 use Prim.Native.Nat.{ℕ}
 use mathlib.Core.Path.{_≡_, refl}
 use mathlib.Core.List.{List, [], _∷_}
@@ -8,9 +8,9 @@ use borrow.Author.Needs.{needs}
 use Rattle.rules.specs.declared.Call.{Call}
 use Rattle.rules.specs.declared.Call.the-variants.{NoSuchCall, BadField, Request, Withdraw, Agree, Block, Unblock, Grant, Clear, Reoccupy, HandOver, Fulfil, Continue, Move, Passed, Term, Join, BookOut, BookIn}
 use Rattle.rules.proofs.Call as enum
-use Rattle.board.specs.Faults.{faultOf}
-use Rattle.board.proofs.entry.fault_of.Statement.{statement}
-use Rattle.board.proofs.entry.fault_of.Tie as tie
+use Rattle.take.specs.Faults.{faultOf}
+use Rattle.take.proofs.fault_of.Statement.{statement}
+use Rattle.take.proofs.fault_of.Tie as tie
 
 abbrev others : List ℕ
 others = 2 ∷ 3 ∷ 4 ∷ 5 ∷ 6 ∷ 7 ∷ 8 ∷ 9 ∷ 10 ∷ 11 ∷ 12 ∷ 13 ∷ 14 ∷ 15 ∷ 16 ∷ 17 ∷ 18 ∷ []

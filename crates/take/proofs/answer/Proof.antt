@@ -1,11 +1,11 @@
--- `board::entry::answer` meets its contract: 2 and 3 by the decoded call, then 4, then the call's own. Assumes nothing.
+-- `take::answer` meets its contract: 2 and 3 by the decoded call, then 4, then the call's own. Assumes nothing.
 use borrow.Author.Needs.{needs}
 use mathlib.Core.Path.{sym, _∙_}
 use denote.Ref.{now}
 use Rattle.places.specs.Places.{boardIn}
-use Rattle.board.proofs.Taking.{Decoded, head-decoded, fault-answer, early-answer, own-answer}
-use Rattle.board.proofs.entry.answer.Statement.{statement}
-use Rattle.board.proofs.entry.answer.Tie as tie
+use Rattle.take.proofs.Taking.{Decoded, head-decoded, fault-answer, early-answer, own-answer}
+use Rattle.take.proofs.answer.Statement.{statement}
+use Rattle.take.proofs.answer.Tie as tie
 
 -- what the decoded call says of the answer
 known : (s : tie.Start) → Decoded (boardIn (s .args .head) (now (s .args .gates)) (now (s .args .authorities)) (now (s .args .trains))) (s .args .s) (s .args .c)

@@ -1,33 +1,30 @@
--- A whole call in the steps of the code: what the decoded call says of the answer, and what a call leaves. Assumes nothing.
-use Prim.Native.Nat.{ℕ, suc, _+_, _≤_, _<_}
+-- A call in the steps of the code: what the decoded call says of the answer, and what a call with room for its line leaves. Assumes nothing.
+use Prim.Native.Nat.{ℕ, suc, _+_, _≤_}
 use native.Mathlib.Omega.{arith}
 use native.Mathlib.Numerals.{add-one}
 use mathlib.Core.Path.{_≡_, refl, sym, ap, subst, _∙_}
 use mathlib.Core.Bool.{Bool, true, false, cond}
-use mathlib.Core.List.{List, _∷_, _++_}
-use lib.ListN.{length, drop}
+use mathlib.Core.List.{List, _∷_}
+use lib.ListN.{length}
 use lib.Dec.{eqb}
-use borrow.Author.Tests.{eq-eqb, ne-eqb, le-ltb}
+use borrow.Author.Tests.{eq-eqb, ne-eqb}
 use Rattle.rules.specs.declared.Seven.{Seven}
 use Rattle.rules.specs.declared.Call.{Call}
 use Rattle.rules.specs.declared.Call.the-variants.{NoSuchCall, BadField, Request, Withdraw, Agree, Block, Unblock, Grant, Clear, Reoccupy, HandOver, Fulfil, Continue, Move, Passed, Term, Join, BookOut, BookIn}
-use Rattle.rules.specs.declared.Called.{Called}
 use Rattle.rules.specs.declared.Register.{Register}
 use Rattle.rules.specs.Board.{Board, boardOf, withStamp}
 use Rattle.rules.specs.Call.{isCall, inRanges, named, decoded}
 use Rattle.rules.specs.Refusals.{_when_, lowest, early, own, conditions, answer}
 use Rattle.rules.specs.Effects.{effect}
-use Rattle.rules.specs.Journal.{journalLine}
-use Rattle.rules.specs.Step.{Kept, Once, Starts, after, allotted, CallPost}
+use Rattle.rules.specs.Step.{Kept, Once, Starts, after, allotted}
 use Rattle.rules.proofs.Accepted.{Ranges, in-ranges}
-use Rattle.rules.proofs.Answers.{refused-same, refused-none, short-answer, short-line, long-line}
+use Rattle.rules.proofs.Answers.{refused-same, refused-none}
 use Rattle.rules.proofs.Once.{once-after}
 use Rattle.rules.proofs.Terms.{starts-after}
 use Rattle.places.specs.declared.head.Head.{Head}
 use Rattle.places.specs.Places.{HeadBounds, boardIn}
-use Rattle.board.specs.Lent.{TakePost}
-use Rattle.board.specs.Faults.{faultOf}
-use Rattle.board.specs.Steps.{withRoom}
+use Rattle.take.specs.Lent.{TakePost}
+use Rattle.take.specs.Faults.{faultOf, withRoom}
 use Rattle.changes.specs.Effects.{EffectPost}
 use Rattle.places.proofs.Registers.{gates-in-use}
 
@@ -91,20 +88,6 @@ unfolding lowest
 own-answer (faulty z e) h l = absurd (z h)
 own-answer (sound z n e) h l = sym (e ∙ rw l)
 
--- ---- a buffer long enough is as good as one of 55 bytes
-
-pub room-answer : (b : Board) (s : Seven) (room : ℕ) → 55 ≤ room → answer b s room ≡ withRoom b s
-unfolding answer conditions lowest
-room-answer b s room h = rw (le-ltb room 55 h)
-
-room-after : (b : Board) (s : Seven) (room : ℕ) → 55 ≤ room → after b s room ≡ after b s 55
-unfolding after
-room-after b s room h = rw (room-answer b s room h)
-
-room-allotted : (b : Board) (s : Seven) (room : ℕ) → 55 ≤ room → allotted b s room ≡ allotted b s 55
-unfolding allotted
-room-allotted b s room h = rw (room-answer b s room h)
-
 -- ---- what a call with room for its line leaves
 
 pub taken-refused : (r : Register) (s : Seven) (refusal : ℕ) → Kept r → refusal ≡ withRoom (boardOf r) s → (refusal ≡ 0 → ⊥)
@@ -159,48 +142,6 @@ taken-accepted r s c out n k e z p m =
   where
     accepted-after : (b : Board) (s : Seven) (d : Board) → withRoom b s ≡ 0 → d ≡ effect b (named s) → withStamp (s .day) (s .time) d ≡ after b s 55
     accepted-after b s d z e = unfold after in rw (eq-eqb (answer b s 55) 0 z, e)
-
--- ---- the same, of a register that is spread over a head and arrays, and read back from them
-
-module _ {r r₀ r′ : Register} {s : Seven} {given number : ℕ} (is : r₀ ≡ r) (p : TakePost r₀ s r′ given number) where
-  -- of a refused call the register handed in is as good as the one left
-  pub spread-refused : Kept r → (given ≡ 0 → ⊥) → TakePost r s r given number
-  spread-refused k n =
-      let q = subst (λ (r : Register). TakePost r s r′ given number) is p in
-      record {
-        board = sym (refused-same (boardOf r) s 55 (λ z. n (q .answered ∙ z)));
-        answered = q .answered;
-        number = q .number;
-        kept = k;
-      }
-
-  pub spread-taken : {r″ : Register} → r″ ≡ r′ → TakePost r s r″ given number
-  spread-taken e = rw (← is, e) p
-
--- ---- the whole call
-
-pub called-short : (r : Register) (s : Seven) (buffer : List ℕ) → Kept r → length buffer < 55
-    → CallPost r s buffer (record { register = r; answer = 1; number = 0 }) buffer
-called-short r s buffer k h =
-    let one : answer (boardOf r) s (length buffer) ≡ 1 = short-answer (boardOf r) s (length buffer) h in
-    let no : answer (boardOf r) s (length buffer) ≡ 0 → ⊥ = λ z. omega arith in
-    record {
-      board = sym (refused-same (boardOf r) s (length buffer) no);
-      answered = sym one;
-      number = sym (refused-none (boardOf r) s (length buffer) no);
-      line = sym (short-line s 1 0 buffer h);
-      kept = k;
-    }
-
-pub called-long : (r : Register) (s : Seven) (buffer buffer′ : List ℕ) (out : Called) → 55 ≤ length buffer → TakePost r s (out .register) (out .answer) (out .number)
-    → buffer′ ≡ journalLine s (out .answer) (out .number) ++ drop 55 buffer → CallPost r s buffer out buffer′
-called-long r s buffer buffer′ out h p e = record {
-  board = p .board ∙ sym (room-after (boardOf r) s (length buffer) h);
-  answered = p .answered ∙ sym (room-answer (boardOf r) s (length buffer) h);
-  number = p .number ∙ sym (room-allotted (boardOf r) s (length buffer) h);
-  line = e ∙ sym (long-line s (out .answer) (out .number) buffer h);
-  kept = p .kept;
-}
 
 -- ---- an accepted call is the one named, none of its own conditions holds, and its number is the next or 0
 

@@ -1,4 +1,4 @@
--- `places::authority::authority_at` meets its contract: a group of eight numbers read. Assumes nothing.
+-- `authority_places::authority_at` meets its contract: a group of eight numbers read. Assumes nothing.
 use Prim.Native.Nat.{ℕ, _*_}
 use native.Mathlib.Omega.{arith}
 use mathlib.Core.Path.{_≡_, refl}
@@ -6,10 +6,10 @@ use mathlib.Core.List.{List, [], _∷_}
 use lib.ListN.{take, drop, getD}
 use borrow.Author.Needs.{needs}
 use Rattle.rules.specs.Board.{noAuthority}
 use Rattle.places.specs.Places.{authorityFrom, authoritiesIn}
 use Rattle.places.proofs.Groups.{place, number-read, place-read}
-use Rattle.places.proofs.authority.authority_at.Statement.{statement}
-use Rattle.places.proofs.authority.authority_at.Tie as tie
+use Rattle.authority_places.proofs.authority_at.Statement.{statement}
+use Rattle.authority_places.proofs.authority_at.Tie as tie
 
 -- number k of the group from a place on, and the group
 abbrev number : List ℕ → ℕ → ℕ → ℕ

@@ -1,9 +1,9 @@
--- `board::entry::is_early` meets its contract. Assumes nothing.
+-- `take::is_early` meets its contract. Assumes nothing.
 use mathlib.Core.Path.{refl}
 use Rattle.rules.specs.Board.{boardOf}
 use Rattle.rules.specs.Refusals.{early}
-use Rattle.board.proofs.entry.is_early.Statement.{statement}
-use Rattle.board.proofs.entry.is_early.Tie as tie
+use Rattle.take.proofs.is_early.Statement.{statement}
+use Rattle.take.proofs.is_early.Tie as tie
 
 returns : tie.Need-returns
 unfolding early boardOf

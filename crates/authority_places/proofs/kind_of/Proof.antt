@@ -1,11 +1,11 @@
--- `places::authority::kind_of` meets its contract. Assumes nothing.
+-- `authority_places::kind_of` meets its contract. Assumes nothing.
 use Prim.Native.Nat.{ℕ, zero, suc}
 use mathlib.Core.Path.{_≡_, refl}
 use Rattle.rules.specs.declared.Kind.the-variants.{Twa}
 use Rattle.rules.specs.Call.{kindOf}
 use borrow.Author.Needs.{needs}
-use Rattle.places.proofs.authority.kind_of.Statement.{statement}
-use Rattle.places.proofs.authority.kind_of.Tie as tie
+use Rattle.authority_places.proofs.kind_of.Statement.{statement}
+use Rattle.authority_places.proofs.kind_of.Tie as tie
 
 -- a number that is neither 1 nor 2 stands for a TWA
 other : (n : ℕ) → (n ≡ 1 → ⊥) → (n ≡ 2 → ⊥) → Twa ≡ kindOf n

@@ -1,4 +1,4 @@
--- `places::authority::put_authority` meets its contract: a group of eight numbers stored. Assumes nothing.
+-- `authority_places::put_authority` meets its contract: a group of eight numbers stored. Assumes nothing.
 use Prim.Native.Nat.{ℕ, _+_, _*_, _/_, _%_, _<_}
 use native.Mathlib.Nat.{mod-eq-of-lt}
 use native.Mathlib.Omega.{arith}
@@ -14,17 +14,17 @@ use borrow.Fn.Kinds.{In}
 use Rattle.rules.specs.declared.Authority.{Authority}
 use Rattle.rules.specs.Board.{kindNo}
 use Rattle.rules.proofs.Equality.{kind-number}
 use Rattle.places.specs.Places.{authorityFrom, authoritiesIn}
 use Rattle.places.proofs.Groups.{stores, place-stored}
 use Rattle.places.proofs.Lent.{sized, t-fn-lent}
-use Rattle.places.proofs.authority.put_authority.Statement.{statement}
-use Rattle.places.proofs.authority.put_authority.Tie as tie
-use Rattle.places.proofs.authority.put_authority.Reads as reads
-use Rattle.places.proofs.authority.put_authority.Lts as lts
-use Rattle.places.proofs.authority.flag.Reads as flag-reads
-use Rattle.places.proofs.authority.kind_no.Reads as kind-no-reads
-use Rattle.places.proofs.authority.term_no.Reads as term-no-reads
-use Rattle.places.proofs.authority.wide.Reads as wide-reads
+use Rattle.authority_places.proofs.put_authority.Statement.{statement}
+use Rattle.authority_places.proofs.put_authority.Tie as tie
+use Rattle.authority_places.proofs.put_authority.Reads as reads
+use Rattle.authority_places.proofs.put_authority.Lts as lts
+use Rattle.authority_places.proofs.flag.Reads as flag-reads
+use Rattle.authority_places.proofs.kind_no.Reads as kind-no-reads
+use Rattle.authority_places.proofs.term_no.Reads as term-no-reads
+use Rattle.authority_places.proofs.wide.Reads as wide-reads
 
 -- what is required, and the length of the array
 abbrev Pre : In 1 lts.ps
