@@ -2,8 +2,8 @@
 -- ensures, at any argument: any plan text, any seven numbers, any buffer. Nothing else is known of a step. Demands 1, 2 and 3 are
 -- theorems about every `Ran`. Assumes nothing.
 use Prim.Native.Nat.{ℕ, _≤_, _<_}
-use mathlib.Core.Path.{_≡_, refl, sym, ap, ap₂, subst, _∙_}
-use mathlib.Core.Bool.{true, false}
+use mathlib.Core.Path.{_≡_, refl, sym, ap, ap₂, subst, subst₂, _∙_}
+use mathlib.Core.Bool.{Bool, true, false, or-false}
 use mathlib.Core.List.{List, [], _∷_, _++_}
 use lib.ListN.{length, drop}
 use contract.Lifetimes.{Lfts}
@@ -34,9 +34,10 @@ use Rattle.rules.specs.Reckoning.{start, reckoned}
 use Rattle.rules.specs.Claim.{Safe}
 use Rattle.rules.proofs.Answers.{NoneHolds, Refused, accepted-none, none-accepted, refused-lowest, lowest-refused, refused-same, refused-none, short-line, long-line}
 use Rattle.rules.proofs.Once.{held-once}
-use Rattle.rules.proofs.Equality.{equal-same}
+use Rattle.rules.proofs.Equality.{equal-same, NoneOfLpas, same-equal}
 use Rattle.rules.proofs.Safety.{demand-3}
-use Rattle.rules.proofs.Terms.{ended-by, StaysIn, term-stays}
+use Rattle.rules.proofs.Stays.{ended-by, agreed-by, StaysIn, authority-stays}
+use Rattle.rules.proofs.Agreements.{Recorded, list-agreements, list-lpas}
 use Rattle.rules.proofs.Bookings.{Booked, NeededBy, list-booked, limits-protected, needed-not-restored}
 use Rattle.rules.proofs.Traces.{trace-snoc, final-snoc}
 use Rattle.board.proofs.entry.open.Kinds as open-kinds
@@ -125,6 +126,24 @@ pub ran-protected : {text : List ℕ} {ms : List Made} {cs : List Answered} {r :
 ran-protected {text} {ms} h n g k =
     subst (λ (b : Board). (has g (b .blocks) ≡ true) × (canBeBlocked b g ≡ true)) (sym (ran-board h)) (limits-protected text ms n g (needed-trace h k))
 
+-- ---- order 7, agreements
+
+-- THEOREM: the number that each live authority of every register that `open` or `call` returned has recorded is the one that its last AGREE or JOIN
+-- names, 0 for none, read off the calls of the run and their answers
+pub ran-agreements : {text : List ℕ} {ms : List Made} {cs : List Answered} {r : Register} → Ran text ms cs r
+    → (o : Authority) → Member o (boardOf r .authorities) → Recorded (reckoned (openBoard text .gates) start cs .authority) o
+ran-agreements {text} {ms} h o m =
+    subst (λ (l : List Answered). Recorded (reckoned (openBoard text .gates) start l .authority) o) (sym (ran-trace h))
+    (list-agreements text ms o (subst (λ (b : Board). Member o (b .authorities)) (ran-board h) m))
+
+-- THEOREM: of two such registers nothing is left free: those that are equal by 01 and 02 stand for one board
+pub ran-equal : {text text′ : List ℕ} {ms ms′ : List Made} {cs cs′ : List Answered} {r r′ : Register} → Ran text ms cs r → Ran text′ ms′ cs′ r′
+    → Same (boardOf r) (boardOf r′) → boardOf r ≡ boardOf r′
+ran-equal {r = r} {r′ = r′} h k = same-equal (boardOf r) (boardOf r′) (lpas h) (lpas k)
+  where
+    lpas : {text : List ℕ} {ms : List Made} {cs : List Answered} {r : Register} → Ran text ms cs r → NoneOfLpas (boardOf r .authorities)
+    lpas {text} {ms} h = subst (λ (b : Board). NoneOfLpas (b .authorities)) (sym (ran-board h)) (list-lpas text ms)
+
 -- ---- demands 1 and 2, of every step of `call`: its arguments `a`, what it returned, and the buffer at its return
 
 module _ (κs : Lfts 1) (a : Dens κs call-kinds.ps) (out : Called) (x : AtExit (endedOf 1 call-kinds.ps call-kinds.r) κs) (p : call-reads.Post κs a out x) where
@@ -171,12 +190,15 @@ module _ (κs : Lfts 1) (a : Dens κs call-kinds.ps) (out : Called) (x : AtExit 
   not-restored {text} {ms} h n g k paper new is e =
       needed-not-restored text ms n g (needed-trace h k) s room paper new is (subst (λ (b : Board). answer b s room ≡ 0) (ran-board h) (sym (p .answered) ∙ e))
 
-  -- order 1: an authority that the call did not end is held after it, in force if it was, with the term that it had
-  pub term-kept : Kept (a .0) → (o : Authority) → Member o (b .authorities) → ended-by (authorityNo o) (answered s (out .answer)) ≡ false
-      → StaysIn o (boardOf (out .register) .authorities)
+  -- orders 1 and 7: an authority that the call did not end is held after it, in force if it was, with the term that it had and, in force or unless the
+  -- call recorded another with it, with the agreement that it had recorded
+  pub authority-kept : Kept (a .0) → (o : Authority) → Member o (b .authorities) → ended-by (authorityNo o) (answered s (out .answer)) ≡ false
+      → StaysIn (agreed-by (authorityNo o) (answered s (out .answer))) o (boardOf (out .register) .authorities)
   unfolding any trace final
-  term-kept k o m e =
+  authority-kept k o m e =
       let told : ended-by (authorityNo o) (answered s (answer b s room)) ≡ false =
       subst (λ (n : ℕ). ended-by (authorityNo o) (answered s n) ≡ false) (p .answered) e in
-      subst (λ (c : Board). StaysIn o (c .authorities)) (sym (p .board))
-      (term-stays (made s buffer ∷ []) b (k .once) o m (or-no (ended-by (authorityNo o) (answered s (answer b s room))) false told refl))
+      let anew : Bool = agreed-by (authorityNo o) (answered s (answer b s room)) in
+      subst₂ (λ (t : Bool) (c : Board). StaysIn t o (c .authorities))
+      (or-false anew ∙ ap (λ (n : ℕ). agreed-by (authorityNo o) (answered s n)) (sym (p .answered))) (sym (p .board))
+      (authority-stays (made s buffer ∷ []) b (k .once) o m (or-no (ended-by (authorityNo o) (answered s (answer b s room))) false told refl))

@@ -5,7 +5,7 @@ ghost use mathlib.Core.Bool.{true};
 ghost use Rattle.cells.specs.Cells.{cellFits, cellsFit};
 ghost use Rattle.rules.specs.Board.{kindNo, boardOf};
 ghost use Rattle.rules.specs.Step.{Bounds};
-ghost use Rattle.rules.specs.Sheet.{stageNo, siteNo, minutesInHand, authorityCells, heldPortions, totalCells, sheetWidths};
+ghost use Rattle.rules.specs.Sheet.{stageNo, siteNo, minutesInHand, authorityCells, authorityWidths, heldPortions, totalCells, totalWidths};
 ghost use Rattle.lists.specs.Prefix.{prefix};
 use cells::Cell;
 use cells::difference;
@@ -48,10 +48,10 @@ fn minutes_in_hand(a: Authority, now: u32) -> Cell
     difference(a.start + a.length as u32, now)
 }
 
-// The line of a live authority.
-pub fn authority_cells(a: Authority, now: u32) -> [Cell; 8]
+// The line of a live authority; its last cell is the authority whose officer's agreement it rests on, 0 for none.
+pub fn authority_cells(a: Authority, now: u32) -> [Cell; 9]
     requires { ⌜ (a .start < 10000 * 1440) × (now < 10 ^ 8) ⌝ }
-    ensures { λ r. ⌜ (r ≡ authorityCells now a) × (cellsFit sheetWidths r ≡ true) ⌝ }
+    ensures { λ r. ⌜ (r ≡ authorityCells now a) × (cellsFit authorityWidths r ≡ true) ⌝ }
 {
     let kind = a.kind;
     [
@@ -63,6 +63,7 @@ pub fn authority_cells(a: Authority, now: u32) -> [Cell; 8]
         Cell::Number(stage_no(a)),
         Cell::Number(site_no(a)),
         minutes_in_hand(a, now),
+        Cell::Number(a.agreed.0 as u32),
     ]
 }
 
@@ -83,13 +84,14 @@ fn held_portions(r: Register) -> u64
     held
 }
 
-// The last line: the portions held and the gates blocked.
-pub fn total_cells(r: Register) -> [Cell; 8]
+// The last line: the portions held and the gates blocked, and blanks.
+pub fn total_cells(r: Register) -> [Cell; 3]
     requires { ⌜ Bounds r ⌝ }
-    ensures { λ cells. ⌜ (cells ≡ totalCells (boardOf r)) × (cellsFit sheetWidths cells ≡ true) ⌝ }
+    ensures { λ cells. ⌜ (cells ≡ totalCells (boardOf r)) × (cellsFit totalWidths cells ≡ true) ⌝ }
 {
-    let mut cells = [Cell::Empty; 8];
-    cells[0] = Cell::Number(portions::size(held_portions(r)));
-    cells[1] = Cell::Number(portions::size(r.blocks));
-    cells
+    [
+        Cell::Number(portions::size(held_portions(r))),
+        Cell::Number(portions::size(r.blocks)),
+        Cell::Empty,
+    ]
 }

@@ -1,4 +1,4 @@
--- The ten cases of 01 marked E, and those of 02's orders 1, 4, 5 and 6, from the rules by computation, in one joint theorem. Assumes nothing.
+-- The ten cases of 01 marked E, and those of 02's orders 1, 4, 5, 6 and 7, from the rules by computation, in one joint theorem. Assumes nothing.
 use Prim.Native.Nat.{ℕ}
 use mathlib.Core.Path.{_≡_, refl}
 use mathlib.Core.List.{List, [], _∷_, _++_, map}
@@ -12,6 +12,7 @@ use Rattle.reading.specs.Reading as Reading
 use Rattle.portions.specs.Sets as Sets
 use Rattle.rules.specs.declared.Seven.{Seven}
 use Rattle.rules.specs.declared.Booking.{Booking}
+use Rattle.rules.specs.declared.Authority.{Authority}
 use Rattle.rules.specs.Board as Board
 use Rattle.rules.specs.Call as Call
 use Rattle.rules.specs.Refusals as Refusals
@@ -87,6 +88,24 @@ unfoldable pub papersAfter : Board.Board → List Seven → List (List ℕ)
 papersAfter b [] = map papers (b .bookings)
 papersAfter b (s ∷ ss) = papersAfter (Step.after b s 55) ss
 
+-- the number of each live authority and the one that it has recorded, after a list of calls on that plan with every gate blocked
+abbrev pub numbers : Authority → List ℕ
+numbers a = Board.authorityNo a ∷ a .agreed .0 ∷ []
+
+unfoldable pub recordedAfter : Board.Board → List Seven → List (List ℕ)
+recordedAfter b [] = map numbers (b .authorities)
+recordedAfter b (s ∷ ss) = recordedAfter (Step.after b s 55) ss
+
+abbrev pub recordedOn : List Seven → List (List ℕ)
+recordedOn calls = recordedAfter (Plan.openBoard planText) (blockAll ++ calls)
+
+-- E9's two in force, a TOA over 0 to 2 and the TWA over 1 that it has agreed; and E10's two with a JOIN, both in force
+abbrev pub agreedTwo : List Seven
+agreedTwo = at 1 1 2 0 2 7 ∷ at 1 6 1 7 0 0 ∷ at 1 1 3 1 1 8 ∷ at 1 3 1 2 7 0 ∷ at 1 6 2 8 0 0 ∷ []
+
+abbrev pub joinedTwo : List Seven
+joinedTwo = at 1 1 3 1 1 7 ∷ at 1 6 1 7 0 0 ∷ at 1 1 2 0 2 8 ∷ at 1 15 1 2 7 500 ∷ at 1 6 2 8 0 0 ∷ []
+
 pub record Cases : Type 0 where
   -- E1 to E6: the whole output for six calls, byte for byte
   pub journal : printed (Plan.openBoard planText)
@@ -141,7 +160,22 @@ pub record Cases : Type 0 where
   -- order 6: out under 5, then 6, then 7: beside 7 stands 6; restored, nothing
   pub renewed : papersAfter (Plan.openBoard plainText) (at 1 16 0 5 0 0 ∷ at 1 17 0 5 0 6 ∷ at 1 17 0 6 0 7 ∷ []) ≡ (7 ∷ 6 ∷ []) ∷ (0 ∷ 0 ∷ []) ∷ []
   pub restored : papersAfter (Plan.openBoard plainText) (at 1 16 0 5 0 0 ∷ at 1 17 0 5 0 6 ∷ at 1 17 0 6 1 0 ∷ []) ≡ (0 ∷ 0 ∷ []) ∷ (0 ∷ 0 ∷ []) ∷ []
+  -- order 7: the agreement of a TWA whose TOA has ended, and of a TOA whose joined TWA has
+  pub toa-ended : recordedOn (agreedTwo ++ (at 1 7 1 7 0 0 ∷ at 1 10 1 7 7 0 ∷ [])) ≡ (2 ∷ 1 ∷ []) ∷ []
+  pub twa-ended : recordedOn (joinedTwo ++ (at 1 7 1 7 0 0 ∷ at 1 10 1 7 7 0 ∷ [])) ≡ (2 ∷ 1 ∷ []) ∷ []
+  -- order 7: through a handover of either, CLEAR and REOCCUPY
+  pub handed-over : recordedOn (agreedTwo ++ (at 1 9 1 7 9 0 ∷ at 1 9 2 8 10 0 ∷ at 1 7 2 10 0 0 ∷ at 1 8 2 10 0 0 ∷ []))
+      ≡ (1 ∷ 0 ∷ []) ∷ (2 ∷ 1 ∷ []) ∷ []
+  pub joined-handed-over : recordedOn (joinedTwo ++ (at 1 9 1 7 9 0 ∷ at 1 9 2 8 10 0 ∷ at 1 7 2 10 0 0 ∷ at 1 8 2 10 0 0 ∷ []))
+      ≡ (1 ∷ 0 ∷ []) ∷ (2 ∷ 1 ∷ []) ∷ []
+  -- order 7: after CONTINUE the new one's own: none, and that with another TOA
+  pub continued-none : recordedOn
+      (at 1 1 2 0 0 7 ∷ at 1 6 1 7 0 0 ∷ at 1 1 3 0 0 8 ∷ at 1 3 1 2 7 0 ∷ at 1 6 2 8 0 0 ∷ at 1 1 3 1 1 9 ∷ at 1 11 2 3 8 9 ∷ [])
+      ≡ (1 ∷ 0 ∷ []) ∷ (3 ∷ 0 ∷ []) ∷ []
+  pub continued-own : recordedOn
+      (at 1 1 2 0 0 7 ∷ at 1 6 1 7 0 0 ∷ at 1 1 3 0 0 8 ∷ at 1 3 1 2 7 0 ∷ at 1 6 2 8 0 0 ∷ at 1 1 2 2 2 5 ∷ at 1 6 3 5 0 0 ∷ at 1 1 3 2 2 9 ∷ at 1 3 3 4 5 0 ∷ at 1 11 2 4 8 9 ∷ [])
+      ≡ (1 ∷ 0 ∷ []) ∷ (3 ∷ 0 ∷ []) ∷ (4 ∷ 3 ∷ []) ∷ []
 
 pub cases : Cases
-unfolding planText plainText printed answers trainsAfter papersAfter bytes Search.any Search.first Search.keep Search.change Search.below Order.insertBy Column.digitsIn Column.digits Column.column Line.line Reading.sameText Reading.valueFrom Reading.isColumn Reading.readColumn Reading.firstColumn Reading.rowOf Sets.has Sets.setOf Sets.run Sets.insert Sets.remove Sets.shares Board.opened Board.closed Board.live Board.authority Board.onBoard Board.train Board.touches Board.touchesPortion Board.needs Board.isOut Board.canBeBlocked Call.isDay Call.isTime Call.minuteOf Call.inRange Call.inRanges Call.calls Call.entryOf Call.isCall Call.named Call.inForm Refusals.lowest Refusals.early Refusals.notLive Refusals.notOfficer Refusals.notToAgree Refusals.notToJoin Refusals.restsOn Refusals.notAtDistance Refusals.isE Refusals.isW Refusals.anyE Refusals.anyW Refusals.theW Refusals.noRoom Refusals.isOtherAt Refusals.taken Refusals.workedOn Refusals.isAt Refusals.notThere Refusals.barred Refusals.pilot Refusals.notPiloted Refusals.full Refusals.isOpen Refusals.unprotected Refusals.occupied Refusals.clashes Refusals.overlaps Refusals.inForceNeeds Refusals.stillNeeded Refusals.minute Refusals.notPendingLpa Refusals.tooSoon Refusals.inTerm Refusals.outsideTerm Refusals.notBooked Refusals.restoresBlocked Refusals.own Refusals.conditions Refusals.answer Effects.effect Plan.planLine Plan.planNumber Plan.isHead Plan.isPlace Plan.isGate Plan.gateOn Plan.areGates Plan.gatesOn Plan.isPlan Plan.openBoard Journal.journalLine Journal.lineAfter Step.after Step.allotted
-cases = record { journal = refl; e7 = refl; e8 = refl; e9 = refl; e10 = refl; lpa = refl; notice = refl; week = refl; start = refl; end = refl; over = refl; nearest = refl; farthest = refl; too-near = refl; too-far = refl; another = refl; entered = refl; left = refl; plain = refl; protects = refl; out = refl; combinations = refl; renewed = refl; restored = refl }
+unfolding planText plainText printed answers trainsAfter papersAfter recordedAfter bytes Search.any Search.first Search.keep Search.change Search.below Order.insertBy Column.digitsIn Column.digits Column.column Line.line Reading.sameText Reading.valueFrom Reading.isColumn Reading.readColumn Reading.firstColumn Reading.rowOf Sets.has Sets.setOf Sets.run Sets.insert Sets.remove Sets.shares Board.opened Board.closed Board.live Board.authority Board.onBoard Board.train Board.touches Board.touchesPortion Board.needs Board.isOut Board.canBeBlocked Call.isDay Call.isTime Call.minuteOf Call.inRange Call.inRanges Call.calls Call.entryOf Call.isCall Call.named Call.inForm Refusals.lowest Refusals.early Refusals.notLive Refusals.notOfficer Refusals.notToAgree Refusals.notToJoin Refusals.restsOn Refusals.notAtDistance Refusals.isE Refusals.isW Refusals.anyE Refusals.anyW Refusals.theW Refusals.noRoom Refusals.isOtherAt Refusals.taken Refusals.workedOn Refusals.isAt Refusals.notThere Refusals.barred Refusals.pilot Refusals.notPiloted Refusals.full Refusals.isOpen Refusals.unprotected Refusals.occupied Refusals.occupiedBeside Refusals.inTheWay Refusals.clashes Refusals.overlaps Refusals.inForceNeeds Refusals.stillNeeded Refusals.minute Refusals.notPendingLpa Refusals.tooSoon Refusals.inTerm Refusals.outsideTerm Refusals.notBooked Refusals.restoresBlocked Refusals.own Refusals.conditions Refusals.answer Effects.effect Plan.planLine Plan.planNumber Plan.isHead Plan.isPlace Plan.isGate Plan.gateOn Plan.areGates Plan.gatesOn Plan.isPlan Plan.openBoard Journal.journalLine Journal.lineAfter Step.after Step.allotted
+cases = record { journal = refl; e7 = refl; e8 = refl; e9 = refl; e10 = refl; lpa = refl; notice = refl; week = refl; start = refl; end = refl; over = refl; nearest = refl; farthest = refl; too-near = refl; too-far = refl; another = refl; entered = refl; left = refl; plain = refl; protects = refl; out = refl; combinations = refl; renewed = refl; restored = refl; toa-ended = refl; twa-ended = refl; handed-over = refl; joined-handed-over = refl; continued-none = refl; continued-own = refl }

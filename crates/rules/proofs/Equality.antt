@@ -1,9 +1,10 @@
--- What contracts equate is equal by 01 and 02 too: equal boards are `Same`, `Same` is an equality, and on boards in order it is 01's equality as
--- sets. Assumes nothing.
+-- What contracts equate is equal by 01 and 02 too: equal boards are `Same`, `Same` is an equality, on boards in order it is 01's equality as sets,
+-- and on the boards of a run nothing is left free. Assumes nothing.
 use Prim.Native.Nat.{ℕ, _≤_}
 use native.Mathlib.Omega.{arith}
 use mathlib.Core.Path.{_≡_, refl, sym, ap, ap₂, subst, _∙_}
 use mathlib.Core.Logic.{⊎-elim}
+use mathlib.Core.Bool.{true}
 use mathlib.Core.List.{List, [], _∷_, List·Memᴰ·head, List·Memᴰ·tail, List·Memᴰ·cases-cons}
 use Rattle.lists.specs.Order.{Ascending}
 use Rattle.lists.proofs.Search.{Member}
@@ -12,11 +13,11 @@ use Rattle.rules.specs.declared.Authority.{Authority}
 use Rattle.rules.specs.declared.Kind.{Kind}
 use Rattle.rules.specs.declared.Kind.the-variants.{Lpa, Toa, Twa}
 use Rattle.rules.specs.Call.{kindOf}
-use Rattle.rules.specs.Board.{Board, kindNo, isToa, isTwa, authorityNo, trainNo, SameAuthority, InOrder, Same}
+use Rattle.rules.specs.Board.{Board, kindNo, isLpa, isToa, isTwa, authorityNo, trainNo, SameAuthority, InOrder, Same}
 use Rattle.rules.specs.Step.{Once}
 
 same-authority : (a : Authority) → SameAuthority a a
-same-authority a = record { number = refl; kind = refl; limits = refl; officer = refl; stage = refl; site = refl; agreed = λ t f. refl; joined = λ t f. refl; start = refl; length = refl }
+same-authority a = record { number = refl; kind = refl; limits = refl; officer = refl; stage = refl; site = refl; agreed = λ t. refl; joined = λ t. refl; start = refl; length = refl }
 
 in-order-refl : (xs : List Authority) → InOrder SameAuthority xs xs
 in-order-refl [] = tt
@@ -48,8 +49,8 @@ then-authority x y z s t = record {
   officer = s .officer ∙ t .officer;
   stage = s .stage ∙ t .stage;
   site = s .site ∙ t .site;
-  agreed = λ w f. s .agreed w f ∙ t .agreed (ap isTwa (sym (s .kind)) ∙ w) (sym (s .stage) ∙ f);
-  joined = λ w f. s .joined w f ∙ t .joined (ap isToa (sym (s .kind)) ∙ w) (sym (s .stage) ∙ f);
+  agreed = λ w. s .agreed w ∙ t .agreed (ap isTwa (sym (s .kind)) ∙ w);
+  joined = λ w. s .joined w ∙ t .joined (ap isToa (sym (s .kind)) ∙ w);
   start = s .start ∙ t .start;
   length = s .length ∙ t .length;
 }
@@ -62,8 +63,8 @@ turn-authority x y s = record {
   officer = sym (s .officer);
   stage = sym (s .stage);
   site = sym (s .site);
-  agreed = λ w f. sym (s .agreed (ap isTwa (s .kind) ∙ w) (s .stage ∙ f));
-  joined = λ w f. sym (s .joined (ap isToa (s .kind) ∙ w) (s .stage ∙ f));
+  agreed = λ w. sym (s .agreed (ap isTwa (s .kind) ∙ w));
+  joined = λ w. sym (s .joined (ap isToa (s .kind) ∙ w));
   start = sym (s .start);
   length = sym (s .length);
 }
@@ -193,6 +194,34 @@ sets-same b c o p s = record {
       in-order-equal (b .trains) (c .trains)
       (each-in-order trainNo (λ x y. x ≡ y) (λ x y l. ap trainNo l) (b .trains) (c .trains) (o .trains) (p .trains) (s .trains) (s .trains′));
 }
+
+-- ---- nothing is left free (02, order 7)
+
+-- the LPAs of a list record no agreement, as after every list of calls (`list-agreements`)
+abbrev pub NoneOfLpas : List Authority → Type 0
+NoneOfLpas xs = (a : Authority) → Member a xs → isLpa (a .kind) ≡ true → a .agreed .0 ≡ 0
+
+equal-agreed : (x y : Authority) (k : Kind) → x .kind ≡ k → SameAuthority x y → (isLpa (x .kind) ≡ true → x .agreed .0 ≡ 0)
+    → (isLpa (y .kind) ≡ true → y .agreed .0 ≡ 0) → x .agreed .0 ≡ y .agreed .0
+equal-agreed x y Lpa e s f g = f (ap isLpa e) ∙ sym (g (ap isLpa (sym (s .kind) ∙ e)))
+equal-agreed x y Toa e s f g = s .joined (ap isToa e)
+equal-agreed x y Twa e s f g = s .agreed (ap isTwa e)
+
+equal-authority : (x y : Authority) → SameAuthority x y → x .agreed .0 ≡ y .agreed .0 → x ≡ y
+equal-authority x y s e = rw (s .number, s .kind, s .limits, s .officer, s .stage, s .site, e, s .start, s .length)
+
+equal-authorities : (xs ys : List Authority) → NoneOfLpas xs → NoneOfLpas ys → InOrder SameAuthority xs ys → xs ≡ ys
+equal-authorities [] [] f g s = refl
+equal-authorities (x ∷ xs) (y ∷ ys) f g s =
+    ap₂ (λ a l. a ∷ l)
+    (equal-authority x y (s .0) (equal-agreed x y (x .kind) refl (s .0) (f x (List·Memᴰ·head refl)) (g y (List·Memᴰ·head refl))))
+    (equal-authorities xs ys (λ a m. f a (List·Memᴰ·tail m)) (λ a m. g a (List·Memᴰ·tail m)) (s .1))
+
+-- THEOREM: boards whose LPAs record no agreement and that are equal by 01 and 02 are one board
+pub same-equal : (b c : Board) → NoneOfLpas (b .authorities) → NoneOfLpas (c .authorities) → Same b c → b ≡ c
+same-equal b c f g s =
+    let e : b .authorities ≡ c .authorities = equal-authorities (b .authorities) (c .authorities) f g (s .authorities) in
+    rw (s .portions, s .gates, s .bookings, s .day, s .time, s .last, s .blocks, e, s .trains)
 
 -- the kinds and 01's numbers for them are one to one
 pub kind-number : (k : Kind) → kindOf (kindNo k) ≡ k

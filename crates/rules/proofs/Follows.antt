@@ -18,7 +18,7 @@ use Rattle.rules.specs.declared.Kind.{Kind}
 use Rattle.rules.specs.declared.Kind.the-variants.{Lpa, Toa, Twa}
 use Rattle.rules.specs.Board.{Board, noAuthority, noTrain, inForce, workersOn, authorityNo, trainNo, isAuthority, isTrain, isNotAuthority, isNotTrain, live, authority, onBoard, train, withAuthorities, withTrains, withBookings, withStamp, amended, ended, moved, gone}
 use Rattle.rules.specs.Reckoning as Reckoning
-use Rattle.rules.specs.Reckoning.{Reckoned, Position, put, asEnded}
+use Rattle.rules.specs.Reckoning.{Reckoned, Position, agreement, put, asEnded}
 use Rattle.rules.specs.Claim.{In, Forced}
 
 -- ---- a map with one value put
@@ -52,8 +52,7 @@ pub record Held (requests : ℕ) (x : Reckoned) (a : Authority) : Type 0 where
   pub last : x .last < 64
   pub force : x .inForce ≡ inForce a
   pub site : inForce a ≡ true → x .workersOn ≡ workersOn a
-  pub agreed : a .kind ≡ Twa → (a .agreed .0 ≡ 0 → ⊥) → x .agreed ≡ a .agreed .0
-  pub joined : a .kind ≡ Toa → (a .agreed .0 ≡ 0 → ⊥) → x .joined ≡ a .agreed .0
+  pub agreement : agreement x ≡ a .agreed .0
 
 -- a train on the board is as it is reckoned; one that is with 0 may be reckoned under an authority that is no longer in force
 pub record Placed (y : Position) (t : Train) : Type 0 where
@@ -82,6 +81,10 @@ AllRest requests A xs = (a : Authority) → Member a xs → Rests requests A (a 
 abbrev pub Since : ℕ → (ℕ → Reckoned) → Type 0
 Since grants A = (n : ℕ) → Forced A n → A n .since ≤ grants
 
+-- no agreement is reckoned with a number that isn't allotted yet
+abbrev pub Unallotted : ℕ → (ℕ → Reckoned) → Type 0
+Unallotted requests A = (n : ℕ) → requests < n → (A n .agreed ≡ 0) × (A n .joined ≡ 0)
+
 abbrev pub AllPlaced : (ℕ → Position) → List Train → Type 0
 AllPlaced T ts = (t : Train) → Member t ts → Placed (T (trainNo t)) t
 
@@ -97,6 +100,7 @@ pub record Follows (b : Board) (r : Reckoning.Reckoning) : Type 0 where
   pub blocks : (g : ℕ) → has g (b .blocks) ≡ true → r .blocked g ≡ true
   pub gates : length (b .gates) ≤ 64
   pub blocked : (g : ℕ) → r .blocked g ≡ true → (g < 64) × (has g (b .blocks) ≡ true)
+  pub unallotted : Unallotted (r .requests) (r .authority)
 
 -- ---- what a search finds
 
@@ -178,7 +182,7 @@ module _ (b : Board) (r : Reckoning.Reckoning) (F : Follows b r) where
       → x .kind ≡ r .authority n .kind
       → ((a : Authority) → Held (r .requests) (r .authority n) a → Held (r .requests) x (g a))
       → ((a : Authority) → Member a (b .authorities) → authorityNo a ≡ n → Rests (r .requests) (r .authority) (g a .kind) (g a .agreed .0))
-      → (x .inForce ≡ true → Taken authorityNo (b .authorities) n)
+      → Taken authorityNo (b .authorities) n
       → r .grants ≤ grants
       → (x .inForce ≡ true → x .since ≤ grants)
       → Follows (withAuthorities (amended n g (b .authorities)) b) (reckonedAs r (r .requests) grants n x)
@@ -195,12 +199,15 @@ module _ (b : Board) (r : Reckoning.Reckoning) (F : Follows b r) where
         (λ m ne f. omega (arith, F .since m f));
     there =
         λ m f. taken-change authorityNo (isAuthority n) g same (b .authorities) m
-        (put-all (λ (m : ℕ) (y : Reckoned). y .inForce ≡ true → Taken authorityNo (b .authorities) m) n x (r .authority) there (λ m ne f. F .there m f) m f);
+        (put-all (λ (m : ℕ) (y : Reckoned). y .inForce ≡ true → Taken authorityNo (b .authorities) m) n x (r .authority) (λ f. there) (λ m ne f. F .there m f) m f);
     placed = F .placed;
     runs = F .runs;
     blocks = F .blocks;
     gates = F .gates;
     blocked = F .blocked;
+    unallotted =
+        put-all (λ (m : ℕ) (y : Reckoned). r .requests < m → (y .agreed ≡ 0) × (y .joined ≡ 0)) n x (r .authority)
+        (λ l. let (a, m, e) = there in absurd (omega (arith, F .held a m .allotted, e))) (λ m ne. F .unallotted m);
   }
 
   -- one authority changed in what isn't reckoned
@@ -227,6 +234,7 @@ module _ (b : Board) (r : Reckoning.Reckoning) (F : Follows b r) where
     blocks = F .blocks;
     gates = F .gates;
     blocked = F .blocked;
+    unallotted = F .unallotted;
   }
 
   -- one authority ended
@@ -252,6 +260,9 @@ module _ (b : Board) (r : Reckoning.Reckoning) (F : Follows b r) where
     blocks = F .blocks;
     gates = F .gates;
     blocked = F .blocked;
+    unallotted =
+        put-all (λ (m : ℕ) (y : Reckoned). r .requests < m → (y .agreed ≡ 0) × (y .joined ≡ 0)) n (asEnded (r .authority n)) (r .authority)
+        (F .unallotted n) (λ m ne. F .unallotted m);
   }
 
   -- other trains
@@ -269,6 +280,7 @@ module _ (b : Board) (r : Reckoning.Reckoning) (F : Follows b r) where
     blocks = F .blocks;
     gates = F .gates;
     blocked = F .blocked;
+    unallotted = F .unallotted;
   }
 
   -- a stamp and bookings are not reckoned
@@ -285,4 +297,5 @@ module _ (b : Board) (r : Reckoning.Reckoning) (F : Follows b r) where
     blocks = F .blocks;
     gates = F .gates;
     blocked = F .blocked;
+    unallotted = F .unallotted;
   }

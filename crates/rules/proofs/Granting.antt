@@ -31,7 +31,7 @@ use Rattle.rules.proofs.Answers.{conditionAt}
 use Rattle.rules.proofs.Accepted.{Accepted}
 use Rattle.rules.proofs.Follows.{put-other, put-all, Held, Placed, giver, Follows, authority-there, there-ended, follows-amended, follows-ended, follows-trains}
 use Rattle.rules.proofs.Claims.{New, safe-put, safe-quieter}
-use Rattle.rules.proofs.Recording.{Keeps, toa-kind, twa-kind, here, there, is-live, held-there, held-anew, held-sited}
+use Rattle.rules.proofs.Recording.{Keeps, toa-kind, twa-kind, twa-agreement, toa-agreement, here, there, is-live, held-there, held-anew, held-sited}
 
 -- the train that a reckoned number stands for
 pub placed-there : (b : Board) (r : Reckoning.Reckoning) → Follows b r → (t : ℕ) → r .train t .onBoard ≡ true
@@ -72,8 +72,8 @@ module _ (b : Board) (r : Reckoning.Reckoning) (F : Follows b r) (n : ℕ) (l : 
       subst (λ (i : ℕ). r .authority i .kind ≡ giver (a .kind)) (sym agreed ∙ e) (F .rests a (authority-there b n l .0) some .0) in (
         omega (arith, F .since m f),
         ⊎-map
-            (λ w. let twa = twa-kind (a .kind) w in (gives ∙ ap giver twa, h .kind ∙ twa, h .agreed twa some ∙ sym agreed ∙ e))
-            (λ w. let toa = toa-kind (a .kind) w in (gives ∙ ap giver toa, h .kind ∙ toa, h .joined toa some ∙ sym agreed ∙ e))
+            (λ w. let twa = twa-kind (a .kind) w in (gives ∙ ap giver twa, h .kind ∙ twa, sym (twa-agreement x (h .kind ∙ twa)) ∙ h .agreement ∙ sym agreed ∙ e))
+            (λ w. let toa = toa-kind (a .kind) w in (gives ∙ ap giver toa, h .kind ∙ toa, sym (toa-agreement x (h .kind ∙ toa)) ∙ h .agreement ∙ sym agreed ∙ e))
             (or-cases (isTwa (a .kind)) (isToa (a .kind)) some-kind),
       )
 
@@ -100,7 +100,7 @@ module _ (b : Board) (r : Reckoning.Reckoning) (F : Follows b r) (n : ℕ) (l : 
       )
 
 held-granted : {requests : ℕ} (since : ℕ) (x : Reckoned) (a : Authority) → Held requests x a → Held requests (asForced since x) (granted a)
-held-granted since x a h = held-anew x (asForced since x) a (granted a) h refl refl refl refl refl refl refl (λ e. refl) (h .agreed) (h .joined)
+held-granted since x a h = held-anew x (asForced since x) a (granted a) h refl refl refl refl refl refl refl (λ e. refl) (h .agreement)
 
 module _ (b : Board) (r : Reckoning.Reckoning) (F : Follows b r) (S : Safe (b .gates) r) (s : Seven) where
   -- ---- GRANT
@@ -110,7 +110,7 @@ module _ (b : Board) (r : Reckoning.Reckoning) (F : Follows b r) (S : Safe (b .g
   keeps-grant n officer ok = record {
     follows =
         follows-amended b r F (n .0) granted x (suc (r .grants)) (λ a. refl) refl (held-granted (suc (r .grants)) (r .authority (n .0)))
-        (λ a m e. F .rests a m) (λ f. there b r F (n .0) l) (omega arith) (λ f. omega arith);
+        (λ a m e. F .rests a m) (there b r F (n .0) l) (omega arith) (λ f. omega arith);
     safe =
         safe-put (b .gates) r (n .0) x
         (record {
@@ -140,7 +140,7 @@ module _ (b : Board) (r : Reckoning.Reckoning) (F : Follows b r) (S : Safe (b .g
   keeps-reoccupy n officer ok = record {
     follows =
         follows-amended b r F (n .0) (withSite true) (asSited true (r .authority (n .0))) (r .grants) (λ a. refl) refl
-        (held-sited (r .authority (n .0)) true) (λ a m e. F .rests a m) (λ f. there b r F (n .0) l) (omega arith) (F .since (n .0));
+        (held-sited (r .authority (n .0)) true) (λ a m e. F .rests a m) (there b r F (n .0) l) (omega arith) (F .since (n .0));
     safe =
         safe-put (b .gates) r (n .0) (asSited true (r .authority (n .0)))
         (record {
@@ -249,7 +249,7 @@ module _ (b : Board) (r : Reckoning.Reckoning) (F : Follows b r) (S : Safe (b .g
     follows =
         follows-amended b1 r1 follows-old (new .0) granted (asForced (suc (r .grants)) (r1 .authority (new .0))) (suc (r .grants)) (λ a. refl) refl
         (held-granted (suc (r .grants)) (r1 .authority (new .0))) (λ a m e. follows-old .rests a m)
-        (λ f. there-ended (old .0) (b .authorities) (new .0) distinct (there b r F (new .0) ln)) (omega arith) (λ f. omega arith);
+        (there-ended (old .0) (b .authorities) (new .0) distinct (there b r F (new .0) ln)) (omega arith) (λ f. omega arith);
     safe =
         safe-put (b .gates) r1 (new .0) (asForced (suc (r .grants)) (r1 .authority (new .0)))
         (subst (λ (u : Reckoned). New (b .gates) r1 (new .0) (asForced (suc (r .grants)) u)) (sym new-is)

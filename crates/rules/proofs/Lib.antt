@@ -13,6 +13,8 @@ pub mod Safety
 pub mod Equality
 pub mod Lines
 pub mod Traces
+pub mod Stays
+pub mod Agreements
 pub mod Terms
 pub mod Bookings
 pub mod Sheets

@@ -4,7 +4,7 @@ use Prim.Native.Nat.{ℕ, suc, _≤_, _<_}
 use native.Mathlib.Omega.{arith}
 use mathlib.Core.Path.{_≡_, refl, sym, ap, subst, _∙_}
 use mathlib.Core.Logic.{_⊎_, inl, inr, ⊎-elim}
-use mathlib.Core.Bool.{Bool, true, false, not, _&&_, false≢true, true≢false}
+use mathlib.Core.Bool.{Bool, true, false, cond, not, _&&_, false≢true, true≢false}
 use lib.ListN.{set}
 use mathlib.Core.List.{[], _∷_, Memᴰ·append-left, List·Memᴰ·append-cases, List·Memᴰ·eq-of-singleton}
 use lib.Dec.{eqb}
@@ -30,7 +30,7 @@ use Rattle.rules.specs.Refusals.{notLive, notToAgree, notToJoin, stillNe
 use Rattle.rules.specs.Effects.{requested, bookedOut, bookedIn, withSite, withOfficer, withAgreed, withTerm, withAuthority, isWith, freed, effect}
 use Rattle.rules.specs.Call.{authorityOf, minuteOf}
 use Rattle.rules.specs.Reckoning as Reckoning
-use Rattle.rules.specs.Reckoning.{Reckoned, put, asRequested, asEnded, asSited, asAgreed, asJoined, reckon}
+use Rattle.rules.specs.Reckoning.{Reckoned, agreement, put, asRequested, asEnded, asSited, asAgreed, asJoined, reckon}
 use Rattle.rules.specs.Claim.{In, Forced, Safe}
 use Rattle.rules.proofs.Answers.{conditionAt}
 use Rattle.rules.proofs.Accepted.{Accepted}
@@ -76,15 +76,29 @@ module _ (b : Board) (r : Reckoning.Reckoning) (F : Follows b r) where
   pub pending : (n : ℕ) → live b n ≡ true → inForce (authority b n) ≡ false → Forced (r .authority) n → ⊥
   pending n l e f = true≢false (sym f ∙ here n l .force ∙ e)
 
+-- whose agreement a TWA and a TOA rest on, and one with which none was recorded
+pub twa-agreement : (x : Reckoned) → x .kind ≡ Twa → agreement x ≡ x .agreed
+twa-agreement x e = rw e
+
+pub toa-agreement : (x : Reckoned) → x .kind ≡ Toa → agreement x ≡ x .joined
+toa-agreement x e = rw e
+
+agreement-none : (x : Reckoned) → x .agreed ≡ 0 → x .joined ≡ 0 → agreement x ≡ 0
+agreement-none x e f = rw (e, f) (pick (isTwa (x .kind)) (isToa (x .kind)))
+  where
+    pick : (t u : Bool) → _≡_ {A = ℕ} (cond t 0 (cond u 0 0)) 0
+    pick true u = refl
+    pick false true = refl
+    pick false false = refl
+
 -- an authority that stays as it is, but for what is given
 pub held-anew : {requests : ℕ} (x y : Reckoned) (a c : Authority) → Held requests x a
     → authorityNo c ≡ authorityNo a → c .kind ≡ a .kind → c .limits ≡ a .limits
     → y .kind ≡ x .kind → y .first ≡ x .first → y .last ≡ x .last
     → y .inForce ≡ inForce c → (inForce c ≡ true → y .workersOn ≡ workersOn c)
-    → (c .kind ≡ Twa → (c .agreed .0 ≡ 0 → ⊥) → y .agreed ≡ c .agreed .0)
-    → (c .kind ≡ Toa → (c .agreed .0 ≡ 0 → ⊥) → y .joined ≡ c .agreed .0)
+    → agreement y ≡ c .agreed .0
     → Held requests y c
-held-anew x y a c h n k l ky fy ly f v g j = record {
+held-anew x y a c h n k l ky fy ly f v g = record {
   positive = omega (arith, h .positive);
   allotted = omega (arith, h .allotted);
   kind = ky ∙ h .kind ∙ sym k;
@@ -94,12 +108,11 @@ held-anew x y a c h n k l ky fy ly f v g j = record {
   last = omega (arith, h .last);
   force = f;
   site = v;
-  agreed = g;
-  joined = j;
+  agreement = g;
 }
 
 pub held-sited : {requests : ℕ} (x : Reckoned) (on : Bool) (a : Authority) → Held requests x a → Held requests (asSited on x) (withSite on a)
-held-sited x on a h = held-anew x (asSited on x) a (withSite on a) h refl refl refl refl refl refl (h .force) (λ e. refl) (h .agreed) (h .joined)
+held-sited x on a h = held-anew x (asSited on x) a (withSite on a) h refl refl refl refl refl refl (h .force) (λ e. refl) (h .agreement)
 
 module _ (b : Board) (r : Reckoning.Reckoning) (F : Follows b r) (S : Safe (b .gates) r) (s : Seven) where
   -- ---- REQUEST
@@ -122,6 +135,9 @@ module _ (b : Board) (r : Reckoning.Reckoning) (F : Follows b r) (S : Safe (b .g
           blocks = F .blocks;
           gates = F .gates;
           blocked = F .blocked;
+          unallotted =
+              put-all (λ (m : ℕ) (y : Reckoned). n < m → (y .agreed ≡ 0) × (y .joined ≡ 0)) n x (r .authority) (λ l. absurd (omega arith))
+              (λ m ne l. F .unallotted m (omega arith));
         };
     safe = safe-quieter (b .gates) r S n n x (λ f. absurd (unused f));
   }
@@ -154,8 +170,7 @@ module _ (b : Board) (r : Reckoning.Reckoning) (F : Follows b r) (S : Safe (b .g
         last = omega (arith, ok .ranges, F .portions);
         force = ⊎-elim (λ f. absurd (unused f)) (λ e. e) (truth (r .authority n .inForce));
         site = λ e. absurd (false≢true e);
-        agreed = λ k z. absurd (z refl);
-        joined = λ k z. absurd (z refl);
+        agreement = agreement-none x (F .unallotted n (omega arith) .0) (F .unallotted n (omega arith) .1);
       }
 
       is-new : (a : Authority) → a ≡ fresh → Held n (put n x (r .authority) (authorityNo a)) a
@@ -177,8 +192,7 @@ module _ (b : Board) (r : Reckoning.Reckoning) (F : Follows b r) (S : Safe (b .g
             last = h .last;
             force = h .force;
             site = h .site;
-            agreed = h .agreed;
-            joined = h .joined;
+            agreement = h .agreement;
           })
 
       old-rests : (a : Authority) → Member a (b .authorities) → Rests n (put n x (r .authority)) (a .kind) (a .agreed .0)
@@ -206,6 +220,7 @@ module _ (b : Board) (r : Reckoning.Reckoning) (F : Follows b r) (S : Safe (b .g
           blocks = F .blocks;
           gates = F .gates;
           blocked = F .blocked;
+          unallotted = F .unallotted;
         };
     safe = S;
   }
@@ -215,7 +230,7 @@ module _ (b : Board) (r : Reckoning.Reckoning) (F : Follows b r) (S : Safe (b .g
   keeps-handOver n out into = record {
     follows =
         follows-unreckoned b r F (n .0) (withOfficer into) (λ a. refl) (λ a. refl) (λ a. refl)
-        (λ a x h. held-anew x x a (withOfficer into a) h refl refl refl refl refl refl (h .force) (h .site) (h .agreed) (h .joined));
+        (λ a x h. held-anew x x a (withOfficer into a) h refl refl refl refl refl refl (h .force) (h .site) (h .agreement));
     safe = S;
   }
 
@@ -224,7 +239,7 @@ module _ (b : Board) (r : Reckoning.Reckoning) (F : Follows b r) (S : Safe (b .g
   keeps-term n day time length = record {
     follows =
         follows-unreckoned b r F (n .0) (withTerm (minuteOf day time) length) (λ a. refl) (λ a. refl) (λ a. refl)
-        (λ a x h. held-anew x x a (withTerm (minuteOf day time) length a) h refl refl refl refl refl refl (h .force) (h .site) (h .agreed) (h .joined));
+        (λ a x h. held-anew x x a (withTerm (minuteOf day time) length a) h refl refl refl refl refl refl (h .force) (h .site) (h .agreement));
     safe = S;
   }
 
@@ -253,18 +268,17 @@ module _ (b : Board) (r : Reckoning.Reckoning) (F : Follows b r) (S : Safe (b .g
     taker-kind a k = sym k ∙ here b r F (taker .0) live-taker .kind
 
     pub follows-recorded : x .kind ≡ y .kind → x .first ≡ y .first → x .last ≡ y .last → x .inForce ≡ y .inForce → x .workersOn ≡ y .workersOn
-        → (authority b (taker .0) .kind ≡ Twa → x .agreed ≡ by .0) → (authority b (taker .0) .kind ≡ Toa → x .joined ≡ by .0)
+        → agreement x ≡ by .0
         → Follows (withAuthorities (amended (taker .0) (withAgreed by) (b .authorities)) b) (reckonedAs r (r .requests) (r .grants) (taker .0) x)
-    follows-recorded ke fe le fo wo ag jo =
+    follows-recorded ke fe le fo wo ag =
         follows-amended b r F (taker .0) (withAgreed by) x (r .grants) (λ a. refl) ke
         (λ a h.
-        held-anew y x a (withAgreed by a) h refl refl refl ke fe le (fo ∙ h .force) (λ e. wo ∙ h .site e)
-        (λ k z. ag (sym (taker-kind a (h .kind)) ∙ k)) (λ k z. jo (sym (taker-kind a (h .kind)) ∙ k)))
+        held-anew y x a (withAgreed by a) h refl refl refl ke fe le (fo ∙ h .force) (λ e. wo ∙ h .site e) ag)
         (λ a m e z. (
           here b r F (by .0) live-by .kind ∙ gives ∙ ap giver (sym (taker-kind a (ap (λ (i : ℕ). r .authority i .kind) (sym e) ∙ F .held a m .kind))),
           subst (λ (k : ℕ). k ≤ r .requests) (authority-there b (by .0) live-by .1) (here b r F (by .0) live-by .allotted),
         ))
-        (λ f. there b r F (taker .0) live-taker) (omega arith) (λ f. absurd (pending b r F (taker .0) live-taker waits (sym fo ∙ f)))
+        (there b r F (taker .0) live-taker) (omega arith) (λ f. absurd (pending b r F (taker .0) live-taker waits (sym fo ∙ f)))
 
     pub safe-recorded : x .inForce ≡ y .inForce → Safe (b .gates) (reckonedAs r (r .requests) (r .grants) (taker .0) x)
     safe-recorded fo = safe-quieter (b .gates) r S (r .requests) (taker .0) x (λ f. absurd (pending b r F (taker .0) live-taker waits (sym fo ∙ f)))
@@ -281,8 +295,8 @@ module _ (b : Board) (r : Reckoning.Reckoning) (F : Follows b r) (S : Safe (b .g
       let gives : authority b (toa .0) .kind ≡ giver (authority b (twa .0) .kind) = k1 ∙ ap giver (sym k2) in
       record {
         follows =
-            follows-recorded toa twa x l1 l2 waits gives refl refl refl refl refl (λ k. refl)
-            (λ k. absurd (false≢true (ap isToa (sym k2 ∙ k))));
+            follows-recorded toa twa x l1 l2 waits gives refl refl refl refl refl
+            (twa-agreement x (here b r F (twa .0) l2 .kind ∙ k2));
         safe = safe-recorded toa twa x l1 l2 waits gives refl;
       }
 
@@ -299,7 +313,7 @@ module _ (b : Board) (r : Reckoning.Reckoning) (F : Follows b r) (S : Safe (b .g
       record {
         follows =
             follows-recorded twa toa x l1 l2 waits gives refl refl refl refl refl
-            (λ k. absurd (false≢true (ap isTwa (sym k2 ∙ k)))) (λ k. refl);
+            (toa-agreement x (here b r F (toa .0) l2 .kind ∙ k2));
         safe = safe-recorded twa toa x l1 l2 waits gives refl;
       }
 
@@ -310,7 +324,7 @@ module _ (b : Board) (r : Reckoning.Reckoning) (F : Follows b r) (S : Safe (b .g
   keeps-clear n officer ok = record {
     follows =
         follows-amended b r F (n .0) (withSite false) (asSited false (r .authority (n .0))) (r .grants) (λ a. refl) refl
-        (held-sited (r .authority (n .0)) false) (λ a m e. F .rests a m) (λ f. there b r F (n .0) (is-live b r F (n .0) (ok .ok 5)))
+        (held-sited (r .authority (n .0)) false) (λ a m e. F .rests a m) (there b r F (n .0) (is-live b r F (n .0) (ok .ok 5)))
         (omega arith) (F .since (n .0));
     safe =
         safe-quieter (b .gates) r S (r .requests) (n .0) (asSited false (r .authority (n .0)))
@@ -353,6 +367,7 @@ module _ (b : Board) (r : Reckoning.Reckoning) (F : Follows b r) (S : Safe (b .g
               put-all (λ (h : ℕ) (y : Bool). y ≡ true → (h < 64) × (has h (insert (g .0) (b .blocks)) ≡ true)) (g .0) true (r .blocked)
               (λ e. let l : g .0 < 64 = omega (arith, ok .ranges, F .gates) in (l, insert-below (g .0) (b .blocks) (g .0) l ∙ rw (eq-eqb (g .0) (g .0) refl)))
               (λ h ne e. let k = F .blocked h e in (k .0, insert-below (g .0) (b .blocks) h (k .0) ∙ or-yes-r (eqb h (g .0)) (has h (b .blocks)) (k .1)));
+          unallotted = F .unallotted;
         };
     safe =
         safe-less (b .gates) (Reckoning.withBlocked (put (g .0) true (r .blocked)) r) r
@@ -381,6 +396,7 @@ module _ (b : Board) (r : Reckoning.Reckoning) (F : Follows b r) (S : Safe (b .g
               put-all (λ (h : ℕ) (y : Bool). y ≡ true → (h < 64) × (has h (remove (g .0) (b .blocks)) ≡ true)) (g .0) false (r .blocked)
               (λ e. absurd (false≢true e))
               (λ h ne e. let k = F .blocked h e in (k .0, remove-below (g .0) (b .blocks) h (k .0) ∙ rw (ne-eqb h (g .0) ne) (k .1)));
+          unallotted = F .unallotted;
         };
     safe =
         record {

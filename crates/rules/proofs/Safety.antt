@@ -116,6 +116,7 @@ opened-follows portions gates h few = record {
   blocks = λ g e. clash e (has-none g);
   gates = few;
   blocked = λ g e. absurd (false≢true e);
+  unallotted = λ n l. (refl, refl);
 }
 
 -- a freshly opened board of at most 64 portions and 64 gates

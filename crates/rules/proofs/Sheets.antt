@@ -1,8 +1,8 @@
--- The shift sheet (02, order 2): first and last are those of the REQUEST after every list of calls; its lines ascend (order 5); and a page worked
--- out, byte for byte. Assumes nothing.
+-- The shift sheet (02, order 2): first and last are those of the REQUEST after every list of calls; its lines ascend (order 5); the ninth column is the
+-- agreement that is reckoned (order 7); and a page worked out, byte for byte. Assumes nothing.
 use Prim.Native.Nat.{ℕ, zero, suc, _<_}
 use native.Mathlib.Omega.{arith}
-use mathlib.Core.Path.{_≡_, refl, sym}
+use mathlib.Core.Path.{_≡_, refl, sym, ap}
 use mathlib.Core.Logic.{⊎-elim}
 use mathlib.Core.Bool.{true, false}
 use mathlib.Core.List.{List, [], _∷_, _++_, map}
@@ -14,7 +14,7 @@ use Rattle.lists.proofs.Search.{Member}
 use Rattle.lists.proofs.Order.{ascending-at}
 use Rattle.columns.specs.Text.{bytes}
 use Rattle.columns.specs.Column.{digitsIn, digits}
-use Rattle.cells.specs.declared.Cell.{Cell}
+use Rattle.cells.specs.declared.Cell.the-variants.{Empty, Number}
 use Rattle.cells.specs.Cells.{difference, marks, cell, cellLine}
 use Rattle.portions.specs.Sets.{has, setOf, run, size, least, greatest}
 use Rattle.portions.proofs.Ends.{least-is, greatest-is}
@@ -24,10 +24,11 @@ use Rattle.rules.specs.Board.{Board, noAuthority, authorityNo}
 use Rattle.rules.specs.Call.{authorityOf, minuteOf}
 use Rattle.rules.specs.Plan.{openBoard}
 use Rattle.rules.specs.Step.{Made, trace, final}
-use Rattle.rules.specs.Reckoning.{Reckoned, start, reckoned}
-use Rattle.rules.specs.Sheet.{nowOf, minutesInHand, authorityCells, heldPortions, totalCells, sheetRows, pageOf, sheet}
+use Rattle.rules.specs.Reckoning.{Reckoned, start, agreement, reckoned}
+use Rattle.rules.specs.Sheet.{nowOf, minutesInHand, authorityCells, authorityLine, heldPortions, totalCells, totalLine, sheetLines, pageOf, sheet}
 use Rattle.rules.proofs.Follows.{Held}
 use Rattle.rules.proofs.Safety.{list-follows}
+use Rattle.rules.proofs.Agreements.{list-agreements}
 
 -- ---- first and last are those of the REQUEST
 
@@ -53,30 +54,40 @@ first-last text ms a m =
 -- ---- lines by ascending number (02, order 5)
 
 -- the line of the authority at place i
-row-at : (f : Authority → List Cell) (xs : List Authority) (rest : List (List Cell)) (i : ℕ) → i < length xs
+line-at : (f : Authority → List ℕ) (xs : List Authority) (rest : List (List ℕ)) (i : ℕ) → i < length xs
     → getD (map f xs ++ rest) i [] ≡ f (getD xs i noAuthority)
-row-at f [] rest i l = absurd (omega arith)
-row-at f (x ∷ xs) rest zero l = refl
-row-at f (x ∷ xs) rest (suc i) l = row-at f xs rest i (omega arith)
+line-at f [] rest i l = absurd (omega arith)
+line-at f (x ∷ xs) rest zero l = refl
+line-at f (x ∷ xs) rest (suc i) l = line-at f xs rest i (omega arith)
 
 -- lines i and j are those of two authorities, each with its number in the first column, and the upper one has the lower number
 pub record Ascend (b : Board) (i j : ℕ) : Type 0 where
   pub upper : Authority
   pub lower : Authority
-  pub upper-line : getD (sheetRows b) i [] ≡ authorityCells (nowOf b) upper
-  pub lower-line : getD (sheetRows b) j [] ≡ authorityCells (nowOf b) lower
+  pub upper-line : getD (sheetLines b) i [] ≡ authorityLine (nowOf b) upper
+  pub lower-line : getD (sheetLines b) j [] ≡ authorityLine (nowOf b) lower
   pub ascend : authorityNo upper < authorityNo lower
 
 -- THEOREM: of any two lines of live authorities the upper has the lower number
 pub lines-ascend : (b : Board) → Ascending authorityNo (b .authorities) → (i j : ℕ) → i < j → j < length (b .authorities) → Ascend b i j
-unfolding sheetRows
+unfolding sheetLines
 lines-ascend b u i j l k = record {
   upper = getD (b .authorities) i noAuthority;
   lower = getD (b .authorities) j noAuthority;
-  upper-line = row-at (authorityCells (nowOf b)) (b .authorities) (totalCells b ∷ []) i (omega arith);
-  lower-line = row-at (authorityCells (nowOf b)) (b .authorities) (totalCells b ∷ []) j k;
+  upper-line = line-at (authorityLine (nowOf b)) (b .authorities) (totalLine b ∷ []) i (omega arith);
+  lower-line = line-at (authorityLine (nowOf b)) (b .authorities) (totalLine b ∷ []) j k;
   ascend = ascending-at authorityNo noAuthority (b .authorities) u i j l k;
 }
+
+-- ---- the ninth column (02, order 7)
+
+-- THEOREM: on a board opened from any plan text, after any list of calls, the ninth column of each live authority's line is the number that its last
+-- AGREE or JOIN names, 0 for none: read off the calls and answers alone
+pub agreement-shown : (text : List ℕ) (ms : List Made) (now : ℕ) (a : Authority) → Member a (final (openBoard text) ms .authorities)
+    → let x = reckoned (openBoard text .gates) start (trace (openBoard text) ms) .authority (authorityNo a) in
+    getD (authorityCells now a) 8 Empty ≡ Number (agreement x)
+unfolding authorityCells
+agreement-shown text ms now a m = ap Number (list-agreements text ms a m .number)
 
 -- ---- a page
 
@@ -143,8 +154,8 @@ lastNight = record {
 unfoldable pub lastNight-bytes : List ℕ
 lastNight-bytes =
     bytes
-    "        1        1        2        3       42        2        1      -55\n        3        2        0        1       63        2        1         \n        4        3        1        1        7        2        2         \n     9999        1       63       63      999        1        2         \n        4        3                                                      \n"
+    "       1      1       2       3      42       2       1      -55       0\n       3      2       0       1      63       2       1                0\n       4      3       1       1       7       2       2                3\n    9999      1      63      63     999       1       2                0\n        4        3                                                      \n"
 
 pub lastNight-sheet : sheet lastNight ≡ lastNight-bytes
-unfolding sheet pageOf sheetRows authorityCells minutesInHand difference totalCells heldPortions cellLine cell marks digits digitsIn least greatest size any first last keep below has setOf run minuteOf lastNight-bytes bytes
+unfolding sheet pageOf sheetLines authorityLine authorityCells minutesInHand difference totalLine totalCells heldPortions cellLine cell marks digits digitsIn least greatest size any first last keep below has setOf run minuteOf lastNight-bytes bytes
 lastNight-sheet = refl

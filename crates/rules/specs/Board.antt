@@ -1,5 +1,5 @@
 -- What the register holds (01, "Track and gates" and "What the register holds"; 02, order 1: terms, order 4: a TOA's agreement, order 5: the order,
--- order 6: bookings). Assumes nothing.
+-- order 6: bookings, order 7: agreements). Assumes nothing.
 use Prim.Native.Nat.{ℕ}
 use mathlib.Core.Path.{_≡_}
 use mathlib.Core.Bool.{Bool, true, false, not, _&&_, _||_}
@@ -22,7 +22,8 @@ use Rattle.rules.specs.declared.Register.{Register}
 -- A board: P portions, the gates in order and the booking of each (order 6), the last stamp, the last number, the blocked gates as a set, live
 -- authorities and trains.
 -- 02, order 5: "Hold live authorities and trains by ascending number after every call": `Once`, specs/Step.antt.
--- The agreed TOA of a TWA in force is free in 01, and the joined TWA of a TOA in force in 02; here each stays as recorded until the TWA or TOA ends.
+-- 02, order 7: the agreed TOA of a TWA, and the joined TWA of a TOA, stays as recorded until the TWA or the TOA ends: `authority-stays`,
+-- proofs/Stays.antt.
 pub record Board : Type 0 where
   pub portions : ℕ
   pub gates : List Gate
@@ -297,8 +298,8 @@ gone n ts = keep (isNotTrain n) ts
 
 -- ---- 01's equality of registers
 
--- "the agreed TOA counts only while its TWA is pending"; 02, order 1: "Terms count when registers are compared."; order 4: "The TOA records the
--- TWA, compared while pending"
+-- 02, order 1: "Terms count when registers are compared."; order 7: "Two registers are now equal only if the recorded agreements are too, pending or
+-- in force, for TWAs and TOAs.", where 01 compared the TOA that a TWA has agreed, and order 4 the TWA that a TOA has joined, while pending
 pub record SameAuthority (x y : Authority) : Type 0 where
   pub number : authorityNo x ≡ authorityNo y
   pub kind : x .kind ≡ y .kind
@@ -306,8 +307,8 @@ pub record SameAuthority (x y : Authority) : Type 0 where
   pub officer : x .officer ≡ y .officer
   pub stage : inForce x ≡ inForce y
   pub site : workersOn x ≡ workersOn y
-  pub agreed : isTwa (x .kind) ≡ true → inForce x ≡ false → x .agreed .0 ≡ y .agreed .0
-  pub joined : isToa (x .kind) ≡ true → inForce x ≡ false → x .agreed .0 ≡ y .agreed .0
+  pub agreed : isTwa (x .kind) ≡ true → x .agreed .0 ≡ y .agreed .0
+  pub joined : isToa (x .kind) ≡ true → x .agreed .0 ≡ y .agreed .0
   pub start : x .start ≡ y .start
   pub length : x .length ≡ y .length
 

@@ -1,5 +1,5 @@
 -- Demand 3's reckoning: what is in force and since when, on site, agreed and blocked, and where and under which authority trains stand, read
--- off a list of calls and their answers in order (01, "The reckoning of demand 3"; 02, order 4). Nothing here reads a register. Assumes nothing.
+-- off a list of calls and their answers in order (01, "The reckoning of demand 3"; 02, orders 4 and 7). Nothing here reads a register. Assumes nothing.
 use Prim.Native.Nat.{ℕ, suc}
 use mathlib.Core.Bool.{Bool, true, false, cond, _&&_}
 use mathlib.Core.List.{List, [], _∷_}
@@ -9,7 +9,7 @@ use Rattle.rules.specs.declared.Kind.the-variants.{Lpa}
 use Rattle.rules.specs.declared.Gate.{Gate}
 use Rattle.rules.specs.declared.Call.{Call}
 use Rattle.rules.specs.declared.Call.the-variants.{NoSuchCall, BadField, Request, Withdraw, Agree, Block, Unblock, Grant, Clear, Reoccupy, HandOver, Fulfil, Continue, Move, Passed, Term, Join, BookOut, BookIn}
-use Rattle.rules.specs.Board.{isOutside, gateAt}
+use Rattle.rules.specs.Board.{isOutside, gateAt, isToa, isTwa}
 use Rattle.rules.specs.Call.{between, named}
 use Rattle.rules.specs.Step.{Answered}
 
@@ -24,6 +24,11 @@ pub record Reckoned : Type 0 where
   pub workersOn : Bool
   pub agreed : ℕ
   pub joined : ℕ
+
+-- whose agreement an authority rests on (02, order 7), for its whole life: a TWA on that of the TOA which its last AGREE names, a TOA on that of the
+-- TWA which its last JOIN names; 0 for none, as for an LPA
+abbrev pub agreement : Reckoned → ℕ
+agreement x = cond (isTwa (x .kind)) (x .agreed) (cond (isToa (x .kind)) (x .joined) 0)
 
 -- a train: whether it is on the board, its head and rear, and the authority that it is under, 0 for none
 pub record Position : Type 0 where

@@ -1,9 +1,9 @@
--- The shift sheet, a page that the outgoing supervisor signs (02, order 2). Assumes nothing.
+-- The shift sheet, a page that the outgoing supervisor signs (02, order 2; order 7: the recorded agreement). Assumes nothing.
 use Prim.Native.Nat.{ℕ, _+_, _*_}
 use mathlib.Core.Path.{_≡_}
 use mathlib.Core.Bool.{Bool, cond, _&&_}
 use mathlib.Core.List.{List, [], _∷_, _++_, map}
-use lib.ListN.{length, drop, replicate}
+use lib.ListN.{length, drop}
 use lib.Dec.{ltb}
 use Rattle.lists.specs.Search.{any}
 use Rattle.cells.specs.declared.Cell.{Cell}
@@ -34,7 +34,8 @@ unfoldable pub minutesInHand : ℕ → Authority → Cell
 minutesInHand now a = cond (hasTerm a) (difference (a .start + a .length) now) Empty
 
 -- "number, kind, first, last, officer, stage (1 pending, 2 in force), site (1 on, 2 clear), minutes in hand": first and last are the least
--- and the greatest portion of the limits
+-- and the greatest portion of the limits. Order 7: "Officers taking over a joint site want to know whose agreement it rests on. [..] The sheet gets it
+-- as a ninth column, 0 for none"
 unfoldable pub authorityCells : ℕ → Authority → List Cell
 authorityCells now a =
     Number (authorityNo a)
@@ -45,7 +46,16 @@ authorityCells now a =
     ∷ Number (stageNo a)
     ∷ Number (siteNo a)
     ∷ minutesInHand now a
+    ∷ Number (a .agreed .0)
     ∷ []
+
+-- "72 columns wide", right-justified; order 7: "kind 7 wide, minutes in hand 9, the other seven 8, lines still 72"
+abbrev pub authorityWidths : List ℕ
+authorityWidths = 8 ∷ 7 ∷ 8 ∷ 8 ∷ 8 ∷ 8 ∷ 8 ∷ 9 ∷ 8 ∷ []
+
+-- "each line ended by a line feed"
+unfoldable pub authorityLine : ℕ → Authority → List ℕ
+authorityLine now a = cellLine authorityWidths (authorityCells now a)
 
 -- ---- the last line
 
@@ -60,27 +70,29 @@ isHeld authorities p = any (holds p) authorities
 unfoldable pub heldPortions : List Authority → ℕ
 heldPortions authorities = setOf 64 (isHeld authorities)
 
--- "The last line counts the portions held and the gates blocked", and has blanks to the full width
+-- "The last line counts the portions held and the gates blocked, 9 columns each", "blanks to the full width"
 unfoldable pub totalCells : Board → List Cell
-totalCells b = Number (size (heldPortions (b .authorities))) ∷ Number (size (b .blocks)) ∷ replicate 6 Empty
+totalCells b = Number (size (heldPortions (b .authorities))) ∷ Number (size (b .blocks)) ∷ Empty ∷ []
+
+abbrev pub totalWidths : List ℕ
+totalWidths = 9 ∷ 9 ∷ 54 ∷ []
+
+unfoldable pub totalLine : Board → List ℕ
+totalLine b = cellLine totalWidths (totalCells b)
 
 -- ---- the page
 
--- "72 columns wide", "all 9 columns right-justified": eight of 9
-abbrev pub sheetWidths : List ℕ
-sheetWidths = replicate 8 9
-
 -- "one line a live authority"; "Lines stand in the register's order."; and the last line
-unfoldable pub sheetRows : Board → List (List Cell)
-sheetRows b = map (authorityCells (nowOf b)) (b .authorities) ++ (totalCells b ∷ [])
+unfoldable pub sheetLines : Board → List (List ℕ)
+sheetLines b = map (authorityLine (nowOf b)) (b .authorities) ++ (totalLine b ∷ [])
 
--- "each line ended by a line feed"
-unfoldable pub pageOf : List (List Cell) → List ℕ
+-- the lines, one behind the other
+unfoldable pub pageOf : List (List ℕ) → List ℕ
 pageOf [] = []
-pageOf (cells ∷ rows) = cellLine sheetWidths cells ++ pageOf rows
+pageOf (line ∷ lines) = line ++ pageOf lines
 
 unfoldable pub sheet : Board → List ℕ
-sheet b = pageOf (sheetRows b)
+sheet b = pageOf (sheetLines b)
 
 -- "The lent buffer must hold 33 lines of 73 bytes"
 abbrev pub isShort : ℕ → Bool
@@ -90,5 +102,5 @@ isShort room = ltb room (33 * 73)
 -- with nothing written."
 pub record SheetPost (register : Register) (buffer : List ℕ) (given lines : ℕ) (buffer′ : List ℕ) : Type 0 where
   pub answered : given ≡ cond (isShort (length buffer)) 23 0
-  pub counted : lines ≡ cond (isShort (length buffer)) 0 (length (sheetRows (boardOf register)))
+  pub counted : lines ≡ cond (isShort (length buffer)) 0 (length (sheetLines (boardOf register)))
   pub bytes : buffer′ ≡ cond (isShort (length buffer)) buffer (sheet (boardOf register) ++ drop (length (sheet (boardOf register))) buffer)

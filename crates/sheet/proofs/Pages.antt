@@ -15,7 +15,8 @@ use Rattle.rules.specs.declared.Register.{Register}
 use Rattle.rules.specs.Board.{boardOf, noAuthority}
 use Rattle.rules.specs.Call.{minuteOf}
 use Rattle.rules.specs.Step.{Kept}
-use Rattle.rules.specs.Sheet.{authorityCells, totalCells, sheetWidths, sheetRows, pageOf, sheet, isShort, SheetPost}
+use Rattle.rules.specs.Sheet.{authorityCells, authorityWidths, authorityLine, totalCells, totalWidths, totalLine, sheetLines, pageOf, sheet, isShort, SheetPost}
+use Rattle.rows.proofs.Fitting.{authority-73, total-73}
 use Rattle.sheet.proofs.Lines.{Printed, printed-none, printed-next}
 
 -- ---- the live authorities
@@ -28,7 +29,7 @@ pub record Listed (r : Register) (i now : ℕ) (page₀ page : List ℕ) : Type 
   pub room : 2409 ≤ length page₀
   pub small : now < 10 ^ 8
   pub stamp : now ≡ minuteOf (r .day) (r .time)
-  pub printed : Printed (map (authorityCells now) (prefix i (r .authorities))) (73 * i) page₀ page
+  pub printed : Printed (map (authorityLine now) (prefix i (r .authorities))) (73 * i) page₀ page
 
 pub listed-none : (r : Register) (now : ℕ) (page : List ℕ) → length (r .authorities) ≡ 32 → Kept r → 2409 ≤ length page
     → (now ≡ minuteOf (r .day) (r .time)) × (now < 10 ^ 8) → Listed r 0 now page page
@@ -55,13 +56,15 @@ module _ (r : Register) (i now : ℕ) (page₀ page : List ℕ) (l : i < r .live
   listed-room = omega (arith, b .kept .bounds .live, b .room, b .printed .long)
 
   -- and its line is written
-  pub listed-next : (cells : List Cell) (last : List ℕ) → (cells ≡ authorityCells now (getD (r .authorities) i noAuthority)) × (cellsFit sheetWidths cells ≡ true)
-      → last ≡ cellLine sheetWidths cells → Listed r (i + 1) now page₀ (putMid (73 * i) (73 * i + 73 - 73 * i) page last)
+  pub listed-next : (cells : List Cell) (last : List ℕ) → (cells ≡ authorityCells now (getD (r .authorities) i noAuthority)) × (cellsFit authorityWidths cells ≡ true)
+      → last ≡ cellLine authorityWidths cells → Listed r (i + 1) now page₀ (putMid (73 * i) (73 * i + 73 - 73 * i) page last)
+  unfolding authorityLine
   listed-next cells last c e =
       let xs = r .authorities in
-      let next : map (authorityCells now) (prefix (i + 1) xs) ≡ map (authorityCells now) (prefix i xs) ++ (cells ∷ []) =
-      ap (map (authorityCells now)) (prefix-next xs i noAuthority (omega (arith, b .kept .bounds .live, b .places)))
-      ∙ map-append (authorityCells now) (prefix i xs) (getD xs i noAuthority ∷ []) ∙ rw (c .0) in
+      let line : authorityLine now (getD xs i noAuthority) ≡ last = sym (e ∙ ap (cellLine authorityWidths) (c .0)) in
+      let next : map (authorityLine now) (prefix (i + 1) xs) ≡ map (authorityLine now) (prefix i xs) ++ (last ∷ []) =
+      ap (map (authorityLine now)) (prefix-next xs i noAuthority (omega (arith, b .kept .bounds .live, b .places)))
+      ∙ map-append (authorityLine now) (prefix i xs) (getD xs i noAuthority ∷ []) ∙ rw line in
       let at : 73 * (i + 1) ≡ 73 * i + 73 = omega arith in
       record {
         few = omega arith;
@@ -72,13 +75,13 @@ module _ (r : Register) (i now : ℕ) (page₀ page : List ℕ) (l : i < r .live
         stamp = b .stamp;
         printed =
             rw (next, at)
-            (printed-next (map (authorityCells now) (prefix i xs)) cells (73 * i) page₀ page last (omega (arith, listed-room, b .printed .long)) (b .printed)
-            (c .1) e);
+            (printed-next (map (authorityLine now) (prefix i xs)) last (73 * i) page₀ page (omega (arith, listed-room, b .printed .long)) (b .printed)
+            (ap length e ∙ authority-73 cells (c .1)));
       }
 
 -- all of them
 pub listed-end : (r : Register) (i now : ℕ) (page₀ page : List ℕ) → r .live ≤ i → Listed r i now page₀ page
-    → page ≡ pageOf (map (authorityCells (minuteOf (r .day) (r .time))) (prefix (r .live) (r .authorities))) ++ drop (73 * r .live) page₀
+    → page ≡ pageOf (map (authorityLine (minuteOf (r .day) (r .time))) (prefix (r .live) (r .authorities))) ++ drop (73 * r .live) page₀
 listed-end r i now page₀ page h b =
     let e : i ≡ r .live = omega (arith, b .few) in
     b .printed .bytes ∙ rw (e, b .stamp)
@@ -90,12 +93,12 @@ pub sheet-short : (r : Register) (buffer : List ℕ) → length buffer < 2409 �
 sheet-short r buffer h = let e = lt-ltb (length buffer) 2409 h in record { answered = rw e; counted = rw e; bytes = rw e }
 
 module _ (r : Register) (buffer page : List ℕ) (k : Kept r) (h : 2409 ≤ length buffer) (long : length page ≡ length buffer)
-    (e : page ≡ pageOf (map (authorityCells (minuteOf (r .day) (r .time))) (prefix (r .live) (r .authorities))) ++ drop (73 * r .live) buffer) where
+    (e : page ≡ pageOf (map (authorityLine (minuteOf (r .day) (r .time))) (prefix (r .live) (r .authorities))) ++ drop (73 * r .live) buffer) where
   -- the lines of the live authorities stand there
-  all-printed : Printed (map (authorityCells (minuteOf (r .day) (r .time))) (prefix (r .live) (r .authorities))) (73 * r .live) buffer page
+  all-printed : Printed (map (authorityLine (minuteOf (r .day) (r .time))) (prefix (r .live) (r .authorities))) (73 * r .live) buffer page
   all-printed =
-      let rows = map (authorityCells (minuteOf (r .day) (r .time))) (prefix (r .live) (r .authorities)) in
-      let whole : length (pageOf rows) + (length buffer - 73 * r .live) ≡ length buffer =
+      let lines = map (authorityLine (minuteOf (r .day) (r .time))) (prefix (r .live) (r .authorities)) in
+      let whole : length (pageOf lines) + (length buffer - 73 * r .live) ≡ length buffer =
       sym (simp (length-append, length-drop) at (ap length e)) ∙ long in
       record { size = omega (arith, k .bounds .live); long = long; bytes = e }
 
@@ -104,20 +107,20 @@ module _ (r : Register) (buffer page : List ℕ) (k : Kept r) (h : 2409 ≤ leng
 
   -- and the last line is written
   pub sheet-long : (cells : List Cell) (last : List ℕ) → length (r .authorities) ≡ 32
-      → (cells ≡ totalCells (boardOf r)) × (cellsFit sheetWidths cells ≡ true) → last ≡ cellLine sheetWidths cells
+      → (cells ≡ totalCells (boardOf r)) × (cellsFit totalWidths cells ≡ true) → last ≡ cellLine totalWidths cells
       → SheetPost r buffer 0 (r .live + 1) (putMid (73 * r .live) (73 * r .live + 73 - 73 * r .live) page last)
-  unfolding boardOf sheetRows sheet
+  unfolding boardOf totalLine sheetLines sheet
   sheet-long cells last p c q =
-      let rows = map (authorityCells (minuteOf (r .day) (r .time))) (prefix (r .live) (r .authorities)) in
+      let lines = map (authorityLine (minuteOf (r .day) (r .time))) (prefix (r .live) (r .authorities)) in
       let short = le-ltb (length buffer) 2409 h in
-      let printed = printed-next rows cells (73 * r .live) buffer page last (omega (arith, page-room)) all-printed (c .1) q in
-      let is : rows ++ (cells ∷ []) ≡ sheetRows (boardOf r) = ap (λ (t : List Cell). rows ++ (t ∷ [])) (c .0) in
-      let count : length rows ≡ r .live = length-map (prefix (r .live) (r .authorities)) _ ∙ length-prefix (r .authorities) (r .live) (omega (arith, k .bounds .live)) in
-      let lines : r .live + 1 ≡ length (rows ++ (cells ∷ [])) = sym (length-append rows (cells ∷ []) ∙ ap (λ (n : ℕ). n + 1) count) in
+      let printed = printed-next lines last (73 * r .live) buffer page (omega (arith, page-room)) all-printed (ap length q ∙ total-73 cells (c .1)) in
+      let is : lines ++ (last ∷ []) ≡ sheetLines (boardOf r) = ap (λ (t : List ℕ). lines ++ (t ∷ [])) (q ∙ ap (cellLine totalWidths) (c .0)) in
+      let count : length lines ≡ r .live = length-map (prefix (r .live) (r .authorities)) _ ∙ length-prefix (r .authorities) (r .live) (omega (arith, k .bounds .live)) in
+      let counted : r .live + 1 ≡ length (lines ++ (last ∷ [])) = sym (length-append lines (last ∷ []) ∙ ap (λ (n : ℕ). n + 1) count) in
       record {
         answered = rw short;
-        counted = rw short (lines ∙ ap length is);
-        bytes = rw short (printed .bytes ∙ ap₂ (λ (x : List ℕ) (n : ℕ). x ++ drop n buffer) (ap pageOf is) (sym (printed .size) ∙ ap (λ (l : List (List Cell)). length (pageOf l)) is));
+        counted = rw short (counted ∙ ap length is);
+        bytes = rw short (printed .bytes ∙ ap₂ (λ (x : List ℕ) (n : ℕ). x ++ drop n buffer) (ap pageOf is) (sym (printed .size) ∙ ap (λ (l : List (List ℕ)). length (pageOf l)) is));
       }
 
 -- ---- what callers cite
@@ -126,9 +129,9 @@ module _ (r : Register) (buffer page : List ℕ) (k : Kept r) (h : 2409 ≤ leng
 pub lines-few : {r : Register} {buffer buffer′ : List ℕ} {given lines : ℕ} → Kept r → SheetPost r buffer given lines buffer′ → lines ≤ 33
 lines-few {r} {buffer} k p = subst (λ (n : ℕ). n ≤ 33) (sym (p .counted)) (few (isShort (length buffer)))
   where
-    rows : length (sheetRows (boardOf r)) ≤ 33
-    rows = unfold sheetRows in simp (length-append, length-map) (omega (arith, k .once .live))
+    most : length (sheetLines (boardOf r)) ≤ 33
+    most = unfold sheetLines in simp (length-append, length-map) (omega (arith, k .once .live))
 
-    few : (t : Bool) → cond t 0 (length (sheetRows (boardOf r))) ≤ 33
+    few : (t : Bool) → cond t 0 (length (sheetLines (boardOf r))) ≤ 33
     few true = omega arith
-    few false = rows
+    few false = most

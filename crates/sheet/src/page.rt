@@ -8,7 +8,7 @@ ghost use Rattle.lists.specs.Prefix.{prefix};
 ghost use Rattle.cells.specs.Cells.{cellLine, cellsFit};
 ghost use Rattle.rules.specs.Call.{minuteOf};
 ghost use Rattle.rules.specs.Step.{Kept};
-ghost use Rattle.rules.specs.Sheet.{authorityCells, sheetWidths, pageOf, SheetPost};
+ghost use Rattle.rules.specs.Sheet.{authorityWidths, authorityLine, totalWidths, pageOf, SheetPost};
 use cells::Cell;
 use rows::authority_cells;
 use rows::total_cells;
@@ -21,17 +21,33 @@ pub struct Written {
     pub lines: usize,
 }
 
-// Fills the whole slice with a line of cells that fit.
-fn fill_line(line: &mut [u8], cells: [Cell; 8])
-    requires { ⌜ (length (now line) ≡ 73) × (cellsFit sheetWidths cells ≡ true) ⌝ }
-    ensures { λ _. ⌜ now (line .exit) ≡ cellLine sheetWidths cells ⌝ }
+// The columns of an authority's line: kind has 7, minutes in hand 9, the others 8.
+const WIDTHS: [usize; 9] = [8, 7, 8, 8, 8, 8, 8, 9, 8];
+
+// Fills the whole slice with an authority's line, whose cells fit.
+fn fill_authority(line: &mut [u8], cells: [Cell; 9])
+    requires { ⌜ (length (now line) ≡ 73) × (cellsFit authorityWidths cells ≡ true) ⌝ }
+    ensures { λ _. ⌜ now (line .exit) ≡ cellLine authorityWidths cells ⌝ }
 {
+    let mut at: usize = 0;
     let mut k: usize = 0;
-    while k < 8 {
-        let at = 9 * k;
-        cells::fill_cell(&mut line[at..at + 9], cells[k]);
+    while k < 9 {
+        let to = at + WIDTHS[k];
+        cells::fill_cell(&mut line[at..to], cells[k]);
+        at = to;
         k += 1;
     }
+    line[72] = 10;
+}
+
+// Fills the whole slice with the last line, whose cells fit: two columns of 9, and blanks.
+fn fill_total(line: &mut [u8], cells: [Cell; 3])
+    requires { ⌜ (length (now line) ≡ 73) × (cellsFit totalWidths cells ≡ true) ⌝ }
+    ensures { λ _. ⌜ now (line .exit) ≡ cellLine totalWidths cells ⌝ }
+{
+    cells::fill_cell(&mut line[0..9], cells[0]);
+    cells::fill_cell(&mut line[9..18], cells[1]);
+    cells::fill_cell(&mut line[18..72], cells[2]);
     line[72] = 10;
 }
 
@@ -45,13 +61,13 @@ fn minute_of(day: u16, time: u16) -> u32
 // Writes the lines of the live authorities to the front of the buffer; later bytes stay.
 fn write_authorities(register: Register, page: &mut [u8])
     requires { ⌜ Kept register × (2409 ≤ length (now page)) ⌝ }
-    ensures { λ _. ⌜ now (page .exit) ≡ pageOf (map (authorityCells (minuteOf (register .day) (register .time))) (prefix (register .live) (register .authorities))) ++ drop (73 * register .live) (now (page .entry)) ⌝ }
+    ensures { λ _. ⌜ now (page .exit) ≡ pageOf (map (authorityLine (minuteOf (register .day) (register .time))) (prefix (register .live) (register .authorities))) ++ drop (73 * register .live) (now (page .entry)) ⌝ }
 {
     let now = minute_of(register.day, register.time);
     let mut i: usize = 0;
     while i < register.live {
         let at = 73 * i;
-        fill_line(
+        fill_authority(
             &mut page[at..at + 73],
             authority_cells(register.authorities[i], now),
         );
@@ -74,7 +90,7 @@ pub fn write_sheet(register: Register, page: &mut [u8]) -> Written
     write_authorities(register, page);
     let live = register.live;
     let at = 73 * live;
-    fill_line(&mut page[at..at + 73], total_cells(register));
+    fill_total(&mut page[at..at + 73], total_cells(register));
     Written {
         answer: 0,
         lines: live + 1,

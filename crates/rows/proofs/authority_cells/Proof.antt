@@ -28,13 +28,17 @@ site-no-requires c κs = search needs
 minutes-in-hand-requires : tie.Need-minutes-in-hand-requires
 minutes-in-hand-requires c κs = search needs
 
+cast-t19 : tie.Need-cast-t19
+cast-t19 c = search needs
+
 returns : tie.Need-returns
 returns c =
-    let stage = c .before .before in
+    let agreed = c .struct-known3 .given .1 .1 .1 .1 .1 .1 .0 .0 in
+    let stage = c .before .before .before in
     let greatest = stage .before .before in
-    authority-line _ _ _ _ _ _ _ _ (search needs) (search needs)
+    authority-line _ _ _ _ _ _ _ _ (search needs) (search needs) (agreed .fits)
     (greatest .before .before .kind-no .ensures) (greatest .before .least .ensures) (greatest .greatest .ensures) (stage .stage-no .ensures)
-    (c .before .site-no .ensures) (c .minutes-in-hand .ensures)
+    (c .before .before .site-no .ensures) (c .before .minutes-in-hand .ensures)
 
 pub authority-cells-spec : {M : Type 1} → statement M
 authority-cells-spec =
@@ -48,4 +52,5 @@ authority-cells-spec =
     stage-no-requires
     site-no-requires
     minutes-in-hand-requires
+    cast-t19
     returns)

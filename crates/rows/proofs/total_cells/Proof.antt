@@ -13,14 +13,8 @@ held-portions-requires c κs = search needs
 size-requires : tie.Need-size-requires
 size-requires c κs = search needs
 
-array-set-from-cells : tie.Need-array-set-from-cells
-array-set-from-cells c = search needs
-
 size-requires-2 : tie.Need-size-requires-2
 size-requires-2 c κs = search needs
-
-array-set-from-cells-2 : tie.Need-array-set-from-cells-2
-array-set-from-cells-2 c = search needs
 
 returns : tie.Need-returns
 unfolding boardOf
@@ -32,7 +26,5 @@ total-cells-spec =
     (tie.spec
     held-portions-requires
     size-requires
-    array-set-from-cells
     size-requires-2
-    array-set-from-cells-2
     returns)

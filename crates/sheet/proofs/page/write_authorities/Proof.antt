@@ -29,17 +29,17 @@ mul-at c = omega (arith, c .before .loop .inv .kept .bounds .live)
 room : (c : tie.In-loop Inv-loop μ-loop) → let l = c .before in 73 * l .loop .i + 73 ≤ length (l .loop .page)
 room c = let l = c .before in listed-room _ (l .loop .i) _ _ _ (c .loop-test .taken) (l .loop .inv)
 
-add-fill-line : tie.Need-add-fill-line Inv-loop μ-loop
-add-fill-line c = omega (arith, c .before .loop .inv .kept .bounds .live)
+add-fill-authority : tie.Need-add-fill-authority Inv-loop μ-loop
+add-fill-authority c = omega (arith, c .before .loop .inv .kept .bounds .live)
 
-sub-fill-line : tie.Need-sub-fill-line Inv-loop μ-loop
-sub-fill-line c = omega arith
+sub-fill-authority : tie.Need-sub-fill-authority Inv-loop μ-loop
+sub-fill-authority c = omega arith
 
-part-fill-line-start : tie.Need-part-fill-line-start Inv-loop μ-loop
-part-fill-line-start c = omega arith
+part-fill-authority-start : tie.Need-part-fill-authority-start Inv-loop μ-loop
+part-fill-authority-start c = omega arith
 
-part-fill-line-end : tie.Need-part-fill-line-end Inv-loop μ-loop
-part-fill-line-end c = room c
+part-fill-authority-end : tie.Need-part-fill-authority-end Inv-loop μ-loop
+part-fill-authority-end c = room c
 
 mul-authority-cells : tie.Need-mul-authority-cells Inv-loop μ-loop
 mul-authority-cells c = omega (arith, c .before .before .loop .inv .kept .bounds .live)
@@ -53,8 +53,8 @@ authority-cells-requires c κs =
     let l = n .before in
     (listed-start _ _ _ _ _ (n .loop-test .taken) (l .loop .inv), l .loop .inv .small)
 
-fill-line-requires : tie.Need-fill-line-requires Inv-loop μ-loop
-fill-line-requires c κs = (part-length _ _ 73 _ (room (c .before .before .before)) refl, c .authority-cells .ensures .1)
+fill-authority-requires : tie.Need-fill-authority-requires Inv-loop μ-loop
+fill-authority-requires c κs = (part-length _ _ 73 _ (room (c .before .before .before)) refl, c .authority-cells .ensures .1)
 
 add-i : tie.Need-add-i Inv-loop μ-loop
 add-i c = omega (arith, c .before .before .before .before .before .before .loop-test .taken)
@@ -66,7 +66,7 @@ loop-again : tie.Need-loop-again Inv-loop μ-loop
 loop-again c =
     let f = c .before .before in
     let n = f .before .before .before .before in
-    listed-next _ _ _ _ _ (n .loop-test .taken) (n .before .loop .inv) _ _ (f .before .authority-cells .ensures) (f .fill-line .ensures)
+    listed-next _ _ _ _ _ (n .loop-test .taken) (n .before .loop .inv) _ _ (f .before .authority-cells .ensures) (f .fill-authority .ensures)
 
 same-length : tie.Need-same-length Inv-loop μ-loop
 same-length c = c .before .loop .inv .printed .long
@@ -83,14 +83,14 @@ write-authorities-spec =
     minute-of-requires
     loop-holds
     mul-at
-    add-fill-line
-    sub-fill-line
-    part-fill-line-start
-    part-fill-line-end
+    add-fill-authority
+    sub-fill-authority
+    part-fill-authority-start
+    part-fill-authority-end
     mul-authority-cells
     element-copy-out-authority-cells
     authority-cells-requires
-    fill-line-requires
+    fill-authority-requires
     add-i
     loop-less
     loop-again

@@ -16,23 +16,23 @@ write-authorities-requires c κs = search needs
 mul-at : tie.Need-mul-at
 mul-at c = search needs
 
-add-fill-line : tie.Need-add-fill-line
-add-fill-line c = search needs
+add-fill-total : tie.Need-add-fill-total
+add-fill-total c = search needs
 
-sub-fill-line : tie.Need-sub-fill-line
-sub-fill-line c = search needs
+sub-fill-total : tie.Need-sub-fill-total
+sub-fill-total c = search needs
 
-part-fill-line-start : tie.Need-part-fill-line-start
-part-fill-line-start c = search needs
+part-fill-total-start : tie.Need-part-fill-total-start
+part-fill-total-start c = search needs
 
-part-fill-line-end : tie.Need-part-fill-line-end
-part-fill-line-end c = search needs
+part-fill-total-end : tie.Need-part-fill-total-end
+part-fill-total-end c = search needs
 
 total-cells-requires : tie.Need-total-cells-requires
 total-cells-requires c κs = search needs
 
-fill-line-requires : tie.Need-fill-line-requires
-fill-line-requires c κs = search needs
+fill-total-requires : tie.Need-fill-total-requires
+fill-total-requires c κs = search needs
 
 add-t5 : tie.Need-add-t5
 add-t5 c = search needs
@@ -51,7 +51,7 @@ returns-2 c =
     let write = total .before .before .before .before in
     let long = write .before .before in
     let start = long .before .before in
-    sheet-long _ _ _ (start .pre) (long .if1 .left) (search needs) (write .write-authorities .ensures) _ _ (places start) (total .total-cells .ensures) (fill .fill-line .ensures)
+    sheet-long _ _ _ (start .pre) (long .if1 .left) (search needs) (write .write-authorities .ensures) _ _ (places start) (total .total-cells .ensures) (fill .fill-total .ensures)
 
 pub write-sheet-spec : {M : Type 1} → statement M
 write-sheet-spec =
@@ -60,12 +60,12 @@ write-sheet-spec =
     returns
     write-authorities-requires
     mul-at
-    add-fill-line
-    sub-fill-line
-    part-fill-line-start
-    part-fill-line-end
+    add-fill-total
+    sub-fill-total
+    part-fill-total-start
+    part-fill-total-end
     total-cells-requires
-    fill-line-requires
+    fill-total-requires
     add-t5
     same-length
     returns-2)
