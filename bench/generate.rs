@@ -4,9 +4,9 @@
 //!   generate SEED busy N OUTDIR    the same, N calls on a busy board
 //!
 //! Kinds: steered, numbers, damaged, short, wild, shift, limits, trains, bookings,
-//! busy N. The generator looks at the reference's board, which it uses as a module,
-//! to steer towards calls that are accepted or refused for a wanted reason. The
-//! clock goes on by a few minutes a call, and sometimes by about a week to the term
+//! agreements, busy N. The generator looks at the reference's board, which it uses
+//! as a module, to steer towards calls that are accepted or refused for a wanted
+//! reason. The clock goes on by a few minutes a call, and sometimes by about a week to the term
 //! of an LPA; now and then some TOAs and TWAs join and agree over the same few
 //! portions. Plain signals are booked out for what needs them.
 //!
@@ -1561,7 +1561,7 @@ impl Driver {
                 self.mood = *self.rng.pick(&MOODS);
                 phase = 20 + self.rng.below(130);
                 if self.rng.chance(30) {
-                    self.journey(end, list);
+                    self.journey(&AMONG_OURS, end, list);
                     continue;
                 }
             }
@@ -1584,8 +1584,9 @@ const AMONG_OURS: Mood = [12, 2, 10, 0, 0, 22, 8, 6, 3, 8, 14, 12, 6, 0, 26, 0, 
 impl Driver {
     /// Calls among some TOAs and TWAs over the same few portions: asked for,
     /// joined and agreed, in force by GRANT and by CONTINUE, cleared and ended,
-    /// and trains through them. Ends well before the list does.
-    fn journey(&mut self, end: usize, list: &mut Vec<[u16; 7]>) {
+    /// and trains through them, as often as the mood has it. Ends well before the
+    /// list does.
+    fn journey(&mut self, mood: &Mood, end: usize, list: &mut Vec<[u16; 7]>) {
         let (first, last) = self.free_limits();
         let last = last.min(first + 3);
         let here = Portions::first_to_last(first, last);
@@ -1595,7 +1596,7 @@ impl Driver {
                 return;
             }
             let asked = self.board.live.iter().filter(|one| ours(one)).count();
-            let call = if asked < 2 { 1 } else { self.rng.weighted(&AMONG_OURS) as u16 + 1 };
+            let call = if asked < 2 { 1 } else { self.rng.weighted(mood) as u16 + 1 };
             if call == 1 {
                 let full = self.board.live.len() == MOST_LIVE;
                 let spare = |one: &Authority| one.is_pending() && (full || (asked > 6 && ours(one)));
@@ -2520,6 +2521,57 @@ impl Driver {
     }
 }
 
+/// More of AGREE, HAND OVER, CLEAR and REOCCUPY than AMONG_OURS, and hardly a
+/// train.
+const RECORDS: Mood = [14, 1, 20, 0, 0, 20, 9, 8, 12, 5, 14, 1, 1, 0, 18, 0, 0];
+
+/// TOAs and TWAs that agree, join and live on, on a board with few others, where
+/// sometimes about 100 or 1000 numbers are gone.
+fn agreements(mut rng: Rng) -> (Vec<u8>, Vec<u8>) {
+    let plan = if rng.chance(50) { Plan::open_to_all(&mut rng) } else { Plan::random(&mut rng) };
+    let gone = match rng.below(8) {
+        0 => rng.between(85, 100),
+        1 => rng.between(985, 1000),
+        _ => 0,
+    };
+    let others = rng.below(60);
+    let journeys = 1 + rng.below(3);
+    let mut driver = Driver::new(rng, &plan);
+    let mut list = Vec::new();
+    for number in 1..=gone {
+        let officer = driver.any_officer();
+        driver.add(1, [2, 0, 0, officer], &mut list);
+        driver.add(2, [number, officer, 0, 0], &mut list);
+    }
+    driver.steer(others, &mut list);
+    for _ in 0..journeys {
+        driver.journey(&RECORDS, usize::MAX, &mut list);
+        for _ in 0..driver.rng.below(3) {
+            driver.refused_record(&mut list);
+        }
+    }
+    (plan.text(), text_of(&list))
+}
+
+impl Driver {
+    /// An AGREE or JOIN to one that has recorded another, if there are such: to
+    /// one in force, or by the wrong officer, or with a wrong distance.
+    fn refused_record(&mut self, list: &mut Vec<[u16; 7]>) {
+        let Some(taker) = self.pick_live(|one| one.agreed.is_some()) else {
+            return;
+        };
+        let is_twa = taker.kind == Kind::Twa;
+        let right = |one: &Authority| one.is_in_force() && taker.agreed != Some(one.number);
+        let Some(giver) = self.pick_live(|one| right(one) && one.kind == if is_twa { Kind::Toa } else { Kind::Twa }) else {
+            return;
+        };
+        let far = !is_twa && self.rng.chance(50);
+        let distance = if is_twa { 0 } else if far { self.bad_distance() } else { self.good_distance() };
+        let officer = if taker.is_in_force() || far { giver.officer } else { self.other_officer(giver.officer) };
+        self.add(if is_twa { 3 } else { 15 }, [giver.number.0, taker.number.0, officer, distance], list);
+    }
+}
+
 /// Random numbers, mostly small.
 fn wild(mut rng: Rng) -> (Vec<u8>, Vec<u8>) {
     let plan = Plan::random(&mut rng);
@@ -2823,7 +2875,7 @@ fn seeded(seed: u64, kind: &str) -> Rng {
 }
 
 fn run(arguments: &[String]) -> Result<(), String> {
-    let usage = "usage: generate SEED steered|numbers|damaged|short|wild|shift|limits|trains|bookings OUTDIR, or generate SEED busy N OUTDIR";
+    let usage = "usage: generate SEED steered|numbers|damaged|short|wild|shift|limits|trains|bookings|agreements OUTDIR, or generate SEED busy N OUTDIR";
     let (seed, kind, folder) = match arguments {
         [seed, kind, .., folder] => (seed, kind.as_str(), Path::new(folder)),
         _ => return Err(usage.to_string()),
@@ -2839,6 +2891,7 @@ fn run(arguments: &[String]) -> Result<(), String> {
         ("limits", 3) => limits(rng),
         ("trains", 3) => trains(rng),
         ("bookings", 3) => bookings(rng),
+        ("agreements", 3) => agreements(rng),
         ("busy", 4) => {
             let count = arguments[2].parse().map_err(|_| usage)?;
             return busy(rng, count, folder).map_err(|error| error.to_string());

@@ -1,4 +1,4 @@
-//! The track authority board, read from 01-scope.md and orders 1 to 6 of
+//! The track authority board, read from 01-scope.md and orders 1 to 7 of
 //! 02-change-requests.md and from nothing else.
 //!
 //! A plain program: it reads the files `plan` and `calls` in the working
@@ -47,11 +47,18 @@ pub const COLUMNS: usize = 6;
 pub const PLAN_LINE: usize = 3 * COLUMNS + 1;
 pub const CALL_LINE: usize = 7 * COLUMNS + 1;
 pub const JOURNAL_LINE: usize = 9 * COLUMNS + 1;
-/// Order 2: "72 columns wide", eight numbers, "all 9 columns right-justified";
-/// "33 lines of 73 bytes": 32 live authorities and the last line.
-pub const CELL: usize = 9;
-pub const CELLS: usize = 8;
-pub const SHEET_WIDTH: usize = CELLS * CELL;
+/// Order 2: "number, kind, first, last, officer, stage", "site", "minutes in
+/// hand"; order 7: "a ninth column", so behind these, "kind 7 wide, minutes in
+/// hand 9, the other seven 8".
+pub const CELLS: usize = 9;
+pub const WIDTHS: [usize; CELLS] = [8, 7, 8, 8, 8, 8, 8, 9, 8];
+/// Order 2: "The last line counts the portions held and the gates blocked, 9
+/// columns each."
+pub const TOTALS: usize = 2;
+pub const TOTAL_WIDTHS: [usize; TOTALS] = [9, 9];
+/// Order 2: "72 columns wide", order 7: "lines still 72"; "33 lines of 73
+/// bytes": 32 live authorities and the last line.
+pub const SHEET_WIDTH: usize = 72;
 pub const SHEET_LINE: usize = SHEET_WIDTH + 1;
 pub const SHEET: usize = (MOST_LIVE + 1) * SHEET_LINE;
 
@@ -332,7 +339,11 @@ pub struct Authority {
     pub site: Site,
     /// "for a TWA, the number of the TOA whose officer agreed, or 0". Order 4:
     /// "The TOA records the TWA", so for a TOA the number of the TWA that it
-    /// has joined; an LPA has none.
+    /// has joined; an LPA has none. Order 7: "Agreements count for the whole
+    /// life", "pending or in force, for TWAs and TOAs", so two boards are equal
+    /// only if these are too. Only AGREE and JOIN set it: "HAND OVER, CLEAR,
+    /// REOCCUPY and the other authority's ending keep the recorded number", and
+    /// so do GRANT and CONTINUE, by which the new one keeps its own.
     pub agreed: Option<AuthorityNumber>,
     /// Order 1: for an LPA, the term that TERM gave it, if any.
     pub term: Option<Term>,
@@ -355,7 +366,9 @@ impl Authority {
 
     /// Order 2, one line of the sheet: "number, kind, first, last, officer,
     /// stage (1 pending, 2 in force), site (1 on, 2 clear), minutes in hand",
-    /// which are "blank where there is no term".
+    /// which are "blank where there is no term". Order 7: the recorded agreement
+    /// "as a ninth column, 0 for none", whether the one recorded is still live
+    /// or not.
     pub fn sheet_cells(&self, now: u32) -> [Cell; CELLS] {
         let stage = match self.stage {
             Stage::Pending => 1,
@@ -374,6 +387,7 @@ impl Authority {
             cell(stage),
             cell(site),
             self.term.map(|term| term.in_hand(now)),
+            cell(self.agreed.map_or(0, |number| number.0)),
         ]
     }
 }
@@ -679,7 +693,7 @@ impl Board {
         // 22 "an LPA has no term or the minute is outside it"
         refuse_if(this.is_outside_term(stamp), Refusal::OutsideTerm)?;
 
-        // "In force, workers on."
+        // "In force, workers on." Order 7: what it has recorded stays.
         self.put_in_force(at);
         Ok(0)
     }
@@ -700,7 +714,8 @@ impl Board {
         // 8 "already in that position"
         refuse_if(this.site == Site::Clear, Refusal::AlreadySo)?;
 
-        // "They set the site."
+        // "They set the site." Order 7: "HAND OVER, CLEAR, REOCCUPY ... keep the
+        // recorded number."
         this.site = Site::Clear;
         Ok(0)
     }
@@ -724,7 +739,7 @@ impl Board {
         // 12 "REOCCUPY of a TWA also 12 a train touches the limits"
         refuse_if(this.kind == Kind::Twa && self.is_touched(this.limits), Refusal::Occupied)?;
 
-        // "They set the site."
+        // "They set the site." Order 7: as for CLEAR.
         self.live[at].site = Site::WorkersOn;
         Ok(0)
     }
@@ -744,6 +759,8 @@ impl Board {
         // 8 "both the same"
         refuse_if(out == r#in, Refusal::AlreadySo)?;
 
+        // Order 7: "HAND OVER ... keep the recorded number", its own and the one
+        // that another has of it.
         self.live[at].officer = r#in;
         Ok(0)
     }
@@ -770,7 +787,8 @@ impl Board {
 
         // "It is live until ... fulfilled". "Trains with it are then with 0.
         // Blocks stay on." Order 5: the others keep their order, and so do the
-        // trains.
+        // trains. Order 7: "the other authority's ending keep the recorded
+        // number": who has recorded this one keeps its number.
         let ended = self.live.remove(at).number;
         for train in self.trains.iter_mut().filter(|train| train.with == Some(ended)) {
             train.with = None;
@@ -813,7 +831,9 @@ impl Board {
         refuse_if(the_new.is_outside_term(stamp), Refusal::OutsideTerm)?;
 
         // "Old ends, new is in force with workers on." Order 5: new stays in
-        // the place of its own number, whatever old's was.
+        // the place of its own number, whatever old's was. Order 7: new has what
+        // it has recorded itself, nothing of old's; who has recorded old, and
+        // that may be new, keeps its number.
         self.put_in_force(new_at);
         self.live.remove(old_at);
         // "Trains with old are then with new if their head is in its limits,
@@ -1026,20 +1046,21 @@ impl Board {
     /// the register's order", and "The last line counts the portions held and
     /// the gates blocked". "The lent buffer must hold 33 lines of 73 bytes;
     /// later bytes stay and the number of lines comes back." Order 5: "by
-    /// ascending number", "and print so".
+    /// ascending number", "and print so". Order 7: "The sheet gets it as a ninth
+    /// column", in the lines of the authorities; the last line stays order 2's.
     pub fn sheet(&self, buffer: &mut [u8]) -> Result<usize, Refusal> {
         // 23 "when it is shorter, with nothing written"
         refuse_if(buffer.len() < SHEET, Refusal::ShortSheet)?;
 
         // "Now is the last stamp, a day being 1440 minutes."
         let now = self.last_stamp.minute();
-        let mut lines: Vec<[Cell; CELLS]> = self.live.iter().map(|one| one.sheet_cells(now)).collect();
-        let mut totals = [BLANK; CELLS];
-        totals[0] = cell(self.held().count());
-        totals[1] = cell(self.blocked.count());
+        let line_of = |one: &Authority| SheetLine { cells: one.sheet_cells(now).to_vec(), widths: &WIDTHS };
+        let mut lines: Vec<SheetLine> = self.live.iter().map(line_of).collect();
+        let counts = [cell(self.held().count()), cell(self.blocked.count())];
+        let totals = SheetLine { cells: counts.to_vec(), widths: &TOTAL_WIDTHS };
         lines.push(totals);
-        for (cells, line) in lines.iter().zip(buffer.chunks_exact_mut(SHEET_LINE)) {
-            write_sheet_line(cells, line);
+        for (one, line) in lines.iter().zip(buffer.chunks_exact_mut(SHEET_LINE)) {
+            write_sheet_line(one, line);
         }
         Ok(lines.len())
     }
@@ -1242,15 +1263,22 @@ fn write_line(numbers: &[u16], output: &mut Vec<u8>) {
 
 /// Order 2: a number on the sheet, or a blank.
 pub type Cell = Option<i32>;
-pub const BLANK: Cell = None;
 
 fn cell(number: u16) -> Cell {
     Some(i32::from(number))
 }
 
+/// One line of the sheet, and how wide each of its cells is; what is behind them
+/// is blank.
+pub struct SheetLine {
+    pub cells: Vec<Cell>,
+    pub widths: &'static [usize],
+}
+
 /// Order 2: a number "right-justified" behind blanks, the minus sign directly
-/// before the digits. The largest that a register can give is 14465534 and the
-/// least -14389918, which fills the 9 columns.
+/// before the digits. The largest minutes in hand that a register can give are
+/// 14465534 and the least -14389918, which fill their 9 columns; no other number
+/// has more than 4 digits.
 fn write_cell(number: i32, columns: &mut [u8]) {
     columns.fill(b' ');
     let mut rest = number.unsigned_abs();
@@ -1270,13 +1298,15 @@ fn write_cell(number: i32, columns: &mut [u8]) {
 
 /// Order 2: "72 columns wide, blanks to the full width, each line ended by a
 /// line feed"
-fn write_sheet_line(cells: &[Cell; CELLS], line: &mut [u8]) {
+fn write_sheet_line(one: &SheetLine, line: &mut [u8]) {
     line[..SHEET_WIDTH].fill(b' ');
     line[SHEET_WIDTH] = b'\n';
-    for (cell, columns) in cells.iter().zip(line.chunks_exact_mut(CELL)) {
+    let mut at = 0;
+    for (cell, width) in one.cells.iter().zip(one.widths) {
         if let Some(number) = cell {
-            write_cell(*number, columns);
+            write_cell(*number, &mut line[at..at + width]);
         }
+        at += width;
     }
 }
 

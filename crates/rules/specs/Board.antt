@@ -22,7 +22,7 @@ use Rattle.rules.specs.declared.Register.{Register}
 -- A board: P portions, the gates in order and the booking of each (order 6), the last stamp, the last number, the blocked gates as a set, live
 -- authorities and trains.
 -- 02, order 5: "Hold live authorities and trains by ascending number after every call": `Once`, specs/Step.antt.
--- 02, order 7: the agreed TOA of a TWA, and the joined TWA of a TOA, stays as recorded until the TWA or the TOA ends: `authority-stays`,
+-- 02, order 7: a TWA keeps the TOA that it has agreed, and a TOA the TWA that it has joined, as recorded until it ends itself: `authority-stays`,
 -- proofs/Stays.antt.
 pub record Board : Type 0 where
   pub portions : ℕ
