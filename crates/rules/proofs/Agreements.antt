@@ -1,7 +1,7 @@
 -- Recorded agreements (02, order 7): "HAND OVER, CLEAR, REOCCUPY and the other authority's ending keep the recorded number.", and after every list of
 -- calls it is the one reckoned from the calls and answers alone. Assumes nothing.
 use Prim.Native.Nat.{ℕ}
-use mathlib.Core.Path.{_≡_, refl, sym, ap, subst, _∙_}
+use mathlib.Core.Path.{_≡_, refl, sym, ap, _∙_}
 use mathlib.Core.Bool.{Bool, true, false, _&&_, false≢true, and-false}
 use mathlib.Core.List.{List, [], _∷_}
 use lib.Dec.{eqb}
@@ -15,7 +15,6 @@ use Rattle.rules.specs.declared.Kind.{Kind}
 use Rattle.rules.specs.declared.Kind.the-variants.{Lpa, Toa, Twa}
 use Rattle.rules.specs.declared.Authority.{Authority}
 use Rattle.rules.specs.declared.Seven.{Seven}
-use Rattle.rules.specs.declared.Call.{Call}
 use Rattle.rules.specs.declared.Call.the-variants.{Withdraw, Clear, Reoccupy, HandOver, Fulfil, Continue}
 use Rattle.rules.specs.Board.{Board, isLpa, authorityNo, isAuthority, live, authority}
 use Rattle.rules.specs.Call.{named}
