@@ -2,17 +2,14 @@
 -- calls it is the one reckoned from the calls and answers alone. Assumes nothing.
 use Prim.Native.Nat.{ℕ}
 use mathlib.Core.Path.{_≡_, refl, sym, ap, _∙_}
-use mathlib.Core.Bool.{Bool, true, false, _&&_, false≢true, and-false}
+use mathlib.Core.Bool.{Bool, true, false, _&&_, and-false}
 use mathlib.Core.List.{List, [], _∷_}
 use lib.Dec.{eqb}
 use borrow.Author.Tests.{eq-eqb, ne-eqb}
 use Rattle.lists.specs.Search.{any}
 use Rattle.lists.proofs.Tests.{or-no}
 use Rattle.lists.proofs.Search.{Member, any-yes}
-use Rattle.lists.proofs.Distinct.{one-of-number}
 use Rattle.rules.specs.declared.AuthorityNo.{AuthorityNo}
-use Rattle.rules.specs.declared.Kind.{Kind}
-use Rattle.rules.specs.declared.Kind.the-variants.{Lpa, Toa, Twa}
 use Rattle.rules.specs.declared.Authority.{Authority}
 use Rattle.rules.specs.declared.Seven.{Seven}
 use Rattle.rules.specs.declared.Call.the-variants.{Withdraw, Clear, Reoccupy, HandOver, Fulfil, Continue}
@@ -23,10 +20,11 @@ use Rattle.rules.specs.Refusals.{answer}
 use Rattle.rules.specs.Step.{Made, after, trace, final, Once}
 use Rattle.rules.specs.Reckoning.{Reckoned, start, agreement, reckoned}
 use Rattle.rules.proofs.Follows.{giver, authority-there}
-use Rattle.rules.proofs.Once.{once-after, held-once}
+use Rattle.rules.proofs.Once.{once-after}
+use Rattle.rules.proofs.Recording.{lpa-kind, lpa-agreement}
 use Rattle.rules.proofs.Safety.{list-follows}
 use Rattle.rules.proofs.Equality.{NoneOfLpas}
-use Rattle.rules.proofs.Stays.{ends, ended-by, agrees, agreed-by, authority-stays}
+use Rattle.rules.proofs.Stays.{ends, ended-by, agrees, agreed-by, the-named, authority-stays}
 
 -- ---- call by call, accepted or refused
 
@@ -52,12 +50,9 @@ module _ (b : Board) (o : Once b) (s : Seven) (room n : ℕ) (l : live b n ≡ t
       let not-agreed : (done && agrees (authorityNo (authority b n)) (named s)) ≡ false =
       ap (λ (m : ℕ). done && agrees m (named s)) number ∙ ap (λ (t : Bool). done && t) g ∙ and-false done in
       let (a, m, k) = authority-stays (made ∷ []) b o (authority b n) (there .0) (or-no _ false not-ended refl) in
-      let is : authorityNo a ≡ n = k .number ∙ number in
-      let held : live (after b s room) n ≡ true = any-yes (isAuthority n) (after b s room .authorities) a m (eq-eqb (authorityNo a) n is) in
-      let there′ = authority-there (after b s room) n held in
-      let same : authority (after b s room) n ≡ a =
-      one-of-number authorityNo (after b s room .authorities) (held-once (after b s room) (once-after b s room o) .0) (authority (after b s room) n) a
-      (there′ .0) m (there′ .1 ∙ sym is) in
+      let is : isAuthority n a ≡ true = eq-eqb (authorityNo a) n (k .number ∙ number) in
+      let held : live (after b s room) n ≡ true = any-yes (isAuthority n) (after b s room .authorities) a m is in
+      let same : authority (after b s room) n ≡ a = the-named (after b s room) (once-after b s room o) n a held m is in
       (held, ap (λ (x : Authority). x .agreed .0) same ∙ ap (λ (x : AuthorityNo). x .0) (k .agreement (or-no _ false not-agreed refl)))
 
   -- "HAND OVER, CLEAR, REOCCUPY [..] keep the recorded number": of the one that they name, and of any other
@@ -102,13 +97,9 @@ list-agreements text ms a m =
     let F = list-follows text ms in
     record { number = sym (F .held a m .agreement); by = λ z. F .rests a m z .0 }
 
-lpa-none : (x : Reckoned) (k : Kind) → isLpa k ≡ true → x .kind ≡ k → agreement x ≡ 0
-lpa-none x Lpa e i = rw i
-lpa-none x Toa e i = absurd (false≢true e)
-lpa-none x Twa e i = absurd (false≢true e)
-
 -- and an LPA has recorded none
 pub list-lpas : (text : List ℕ) (ms : List Made) → NoneOfLpas (final (openBoard text) ms .authorities)
 list-lpas text ms a m e =
     let h = list-follows text ms .held a m in
-    sym (h .agreement) ∙ lpa-none (reckoned (openBoard text .gates) start (trace (openBoard text) ms) .authority (authorityNo a)) (a .kind) e (h .kind)
+    let x : Reckoned = reckoned (openBoard text .gates) start (trace (openBoard text) ms) .authority (authorityNo a) in
+    sym (h .agreement) ∙ lpa-agreement x (h .kind ∙ lpa-kind (a .kind) e)

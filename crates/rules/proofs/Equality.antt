@@ -197,7 +197,7 @@ sets-same b c o p s = record {
 
 -- ---- nothing is left free (02, order 7)
 
--- the LPAs of a list record no agreement, as after every list of calls (`list-agreements`)
+-- the LPAs of a list record no agreement, as after every list of calls (`list-lpas`)
 abbrev pub NoneOfLpas : List Authority → Type 0
 NoneOfLpas xs = (a : Authority) → Member a xs → isLpa (a .kind) ≡ true → a .agreed .0 ≡ 0
 

@@ -3,7 +3,7 @@
 use Prim.Native.Nat.{ℕ, suc, _≤_, _<_}
 use native.Mathlib.Omega.{arith}
 use mathlib.Core.Path.{_≡_, refl, sym, ap, subst, _∙_}
-use mathlib.Core.Logic.{_⊎_, inl, inr, ⊎-elim}
+use mathlib.Core.Logic.{⊎-elim}
 use mathlib.Core.Bool.{Bool, true, false, cond, not, _&&_, false≢true, true≢false}
 use lib.ListN.{set}
 use mathlib.Core.List.{[], _∷_, Memᴰ·append-left, List·Memᴰ·append-cases, List·Memᴰ·eq-of-singleton}
@@ -25,7 +25,7 @@ use Rattle.rules.specs.declared.Train.{Train}
 use Rattle.rules.specs.declared.Seven.{Seven}
 use Rattle.rules.specs.declared.Call.{Call}
 use Rattle.rules.specs.declared.Call.the-variants.{Request, Withdraw, Agree, Block, Unblock, Clear, HandOver, Fulfil, Term, Join, BookOut, BookIn}
-use Rattle.rules.specs.Board.{Board, gateAt, isToa, isTwa, inForce, workersOn, authorityNo, trainNo, live, authority, needs, withAuthorities, amended, ended}
+use Rattle.rules.specs.Board.{Board, gateAt, isLpa, isToa, isTwa, inForce, workersOn, authorityNo, trainNo, live, authority, needs, withAuthorities, amended, ended}
 use Rattle.rules.specs.Refusals.{notLive, notToAgree, notToJoin, stillNeeded, inForceNeeds, own}
 use Rattle.rules.specs.Effects.{requested, bookedOut, bookedIn, withSite, withOfficer, withAgreed, withTerm, withAuthority, isWith, freed, effect}
 use Rattle.rules.specs.Call.{authorityOf, minuteOf}
@@ -36,6 +36,11 @@ use Rattle.rules.proofs.Answers.{conditionAt}
 use Rattle.rules.proofs.Accepted.{Accepted}
 use Rattle.rules.proofs.Follows.{put-same, put-other, put-all, Held, Placed, giver, Rests, Follows, reckonedAs, authority-there, ended-member, there-ended, follows-amended, follows-unreckoned, follows-ended, follows-trains, follows-beside}
 use Rattle.rules.proofs.Claims.{quiet-same, small-same, safe-less, safe-quieter}
+
+pub lpa-kind : (k : Kind) → isLpa k ≡ true → k ≡ Lpa
+lpa-kind Lpa e = refl
+lpa-kind Toa e = absurd (false≢true e)
+lpa-kind Twa e = absurd (false≢true e)
 
 pub toa-kind : (k : Kind) → isToa k ≡ true → k ≡ Toa
 toa-kind Lpa e = absurd (false≢true e)
@@ -76,12 +81,15 @@ module _ (b : Board) (r : Reckoning.Reckoning) (F : Follows b r) where
   pub pending : (n : ℕ) → live b n ≡ true → inForce (authority b n) ≡ false → Forced (r .authority) n → ⊥
   pending n l e f = true≢false (sym f ∙ here n l .force ∙ e)
 
--- whose agreement a TWA and a TOA rest on, and one with which none was recorded
+-- whose agreement a TWA, a TOA and an LPA rest on, and one with which none was recorded
 pub twa-agreement : (x : Reckoned) → x .kind ≡ Twa → agreement x ≡ x .agreed
 twa-agreement x e = rw e
 
 pub toa-agreement : (x : Reckoned) → x .kind ≡ Toa → agreement x ≡ x .joined
 toa-agreement x e = rw e
+
+pub lpa-agreement : (x : Reckoned) → x .kind ≡ Lpa → agreement x ≡ 0
+lpa-agreement x e = rw e
 
 agreement-none : (x : Reckoned) → x .agreed ≡ 0 → x .joined ≡ 0 → agreement x ≡ 0
 agreement-none x e f = rw (e, f) (pick (isTwa (x .kind)) (isToa (x .kind)))

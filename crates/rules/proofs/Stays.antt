@@ -125,13 +125,13 @@ ended-stays n xs x m e = keeps (isNotAuthority n) xs x (ap not e) m
 granted-stays : {anew : Bool} (x : Authority) → Stays anew x (granted x)
 granted-stays x = record { number = refl; force = λ e. refl; term = λ e. (refl, refl); rests = λ e. refl; agreement = λ e. refl }
 
-module _ (b : Board) (o : Once b) (s : Seven) where
-  -- the authority that a call names is the one with its number
-  the-named : (n : ℕ) (x : Authority) → live b n ≡ true → Member x (b .authorities) → isAuthority n x ≡ true → authority b n ≡ x
-  the-named n x l m i =
-      let there = authority-there b n l in
-      one-of-number authorityNo (b .authorities) (held-once b o .0) (authority b n) x (there .0) m (there .1 ∙ sym (eqb-true (authorityNo x) n i))
+-- the authority that a call names is the one with its number
+pub the-named : (b : Board) → Once b → (n : ℕ) (x : Authority) → live b n ≡ true → Member x (b .authorities) → isAuthority n x ≡ true → authority b n ≡ x
+the-named b o n x l m i =
+    let there = authority-there b n l in
+    one-of-number authorityNo (b .authorities) (held-once b o .0) (authority b n) x (there .0) m (there .1 ∙ sym (eqb-true (authorityNo x) n i))
 
+module _ (b : Board) (o : Once b) (s : Seven) where
   -- AGREE and JOIN, of an authority that is pending: the agreement is recorded anew
   agreed-stays : {anew : Bool} (n : ℕ) (x : Authority) (by : AuthorityNo) → live b n ≡ true → inForce (authority b n) ≡ false → Member x (b .authorities)
       → isAuthority n x ≡ true → anew ≡ true → Stays anew x (withAgreed by x)
@@ -139,7 +139,7 @@ module _ (b : Board) (o : Once b) (s : Seven) where
     number = refl;
     force = λ f. f;
     term = λ e. (refl, refl);
-    rests = λ f. clash f (ap inForce (sym (the-named n x l m i)) ∙ waits);
+    rests = λ f. clash f (ap inForce (sym (the-named b o n x l m i)) ∙ waits);
     agreement = λ e. clash is e;
   }
 
@@ -178,7 +178,7 @@ module _ (b : Board) (o : Once b) (s : Seven) where
       (λ i. record {
         number = refl;
         force = λ f. f;
-        term = λ h. clash h (subst (λ (y : Authority). hasTerm y ≡ false) (the-named (n .0) x (not-no (live b (n .0)) (k .ok 5)) m i) (k .ok 8));
+        term = λ h. clash h (subst (λ (y : Authority). hasTerm y ≡ false) (the-named b o (n .0) x (not-no (live b (n .0)) (k .ok 5)) m i) (k .ok 8));
         rests = λ f. refl;
         agreement = λ f. refl;
       })
