@@ -1,5 +1,7 @@
 // The agreements by which a TOA and a TWA may share portions: the answers to AGREE, which records that of a TOA's officer with a pending TWA, and to
 // JOIN (02, order 4), which records that of a TWA's officer with a pending TOA.
+#![tactic(auto)]
+
 ghost use Rattle.std.specs.Prelude.{◌≡◌, not, ◌∷◌, [], eqb};
 ghost use Rattle.rules.specs.Refusals.{◌when◌, lowest, not_to_agree, not_to_join, not_at_distance, agree_refusals, join_refusals};
 ghost use Rattle.places.specs.Places.{HeadBounds, board_in};

@@ -1,5 +1,7 @@
 // The live authorities that a register holds, a dense prefix of the places by ascending number, which is the order of their requests: changes of one,
 // one more and one less, which keep it so.
+#![tactic(auto)]
+
 ghost use Rattle.std.specs.Prelude.{◌≡◌, ◌++◌, ◌∷◌, [], ◌+◌, ◌≤◌, ◌<◌};
 ghost use Rattle.lists.specs.Search.{keep, change};
 ghost use Rattle.lists.specs.Prefix.{prefix};
@@ -12,7 +14,7 @@ use authority_places::{authority_at, put_authority};
 use rules::{Authority, AuthorityNo};
 
 // What becomes of an authority.
-#[derive(Drop)]
+#[derive(Clone, Copy)]
 pub enum Change {
     Granted,
     Site(bool),

@@ -1,4 +1,6 @@
 // The live authorities that a register holds, a dense prefix of the places by ascending number, which is the order of their requests: searches.
+#![tactic(auto)]
+
 ghost use Rattle.std.specs.Prelude.{◌≡◌, ◌≤◌};
 ghost use Rattle.lists.specs.Search.{any};
 ghost use Rattle.lists.specs.Prefix.{prefix};
@@ -11,7 +13,7 @@ use authority_places::authority_at;
 use kinds::{is_exclusive, is_toa, is_twa};
 use rules::{Authority, AuthorityNo, Gate};
 
-#[derive(Drop)]
+#[derive(Clone, Copy)]
 pub enum Found {
     Is(Authority),
     Nothing,

@@ -1,5 +1,7 @@
 // An authority's place in its lent array, in eight numbers: its number, kind, limits, officer, stage, site, the authority whose agreement it rests on, and its
 // term: start times 65536, plus length. It is read or stored without a copy of the register.
+#![tactic(auto)]
+
 ghost use Rattle.std.specs.Prelude.{◌≡◌, cond, ◌<◌, ◌+◌, ◌*◌, ◌/◌, ◌%◌, get_or, set};
 ghost use Rattle.rules.specs.Board.{no_authority, kind_no};
 ghost use Rattle.rules.specs.Call.{kind_of};

@@ -1,4 +1,6 @@
 // The track authority board: opening a board from a plan's text, and taking one call after another.
+#![tactic(auto)]
+
 mod entry;
 
 pub use entry::{call, open};

@@ -1,5 +1,7 @@
 // Gates booked out of use (02, order 6): a gate's booking, read and stored; whether the gate can be blocked; and the refusals of BOOK OUT and
 // BOOK IN, the lowest whose condition holds, or 0.
+#![tactic(auto)]
+
 ghost use Rattle.std.specs.Prelude.{◌≡◌, ◌≤◌, set};
 ghost use Rattle.lists.specs.Prefix.{prefix};
 ghost use Rattle.rules.specs.Board.{booking_at, can_be_blocked};

@@ -1,4 +1,6 @@
 // A text of calls: a piece of it run on a board, and its journal.
+#![tactic(auto)]
+
 mod journal;
 mod piece;
 

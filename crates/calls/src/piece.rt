@@ -9,13 +9,13 @@ use places::Head;
 use rules::Register;
 
 // The register after a run, and how many calls it made.
-#[derive(Drop)]
+#[derive(Clone, Copy)]
 pub struct Ran {
     pub register: Register,
     pub lines: usize,
 }
 
-#[derive(Drop)]
+#[derive(Clone, Copy)]
 struct RanHead {
     head: Head,
     lines: usize,

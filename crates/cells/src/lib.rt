@@ -1,4 +1,6 @@
 // A cell of a page: a number, a number behind a minus sign, or nothing, right-justified in fixed columns of a lent text; and a difference as a cell.
+#![tactic(auto)]
+
 ghost use Rattle.std.specs.Prelude.{◌≡◌, true, length, replicate};
 ghost use Rattle.cells.specs.Cells as Cells;
 ghost use Rattle.cells.specs.declared.Cell.TheVariants as Cell;
@@ -7,7 +9,7 @@ use columns::{fill_column, is_fitting};
 use reading::blanks_of;
 
 // What stands in a cell.
-#[derive(Drop)]
+#[derive(Clone, Copy)]
 pub enum Cell {
     Empty,
     Number(u32),

@@ -1,5 +1,7 @@
 // What the accepted calls do that change authorities, blocks or bookings and no train, in the register's arrays; the head that each leaves is handed
 // back.
+#![tactic(auto)]
+
 ghost use Rattle.std.specs.Prelude.{◌≡◌, ◌<◌};
 ghost use Rattle.rules.specs.declared.Call.TheVariants as Call;
 ghost use Rattle.rules.specs.Effects.{booked_in};

@@ -1,5 +1,7 @@
 // The conditions for refusal that are a search or a sum of their own, on the board in the lent arrays: full, unprotected, occupied, overlapping, still needed, and
 // those on terms (02, order 1).
+#![tactic(auto)]
+
 ghost use Rattle.std.specs.Prelude.{◌≡◌};
 ghost use Rattle.rules.specs.Refusals.{full, unprotected, occupied, occupied_beside, overlaps, still_needed, too_soon, outside_term};
 ghost use Rattle.places.specs.Places.{HeadBounds, board_in};

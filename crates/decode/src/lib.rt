@@ -1,4 +1,6 @@
 // Reading a call off its seven numbers: its number is matched over 1 to 17 and the range beyond; its fields are then matched by kind (crate fields).
+#![tactic(auto)]
+
 ghost use Rattle.std.specs.Prelude.{◌≡◌};
 ghost use Rattle.rules.specs.Call.{kind_of, entry_of, named, decoded};
 

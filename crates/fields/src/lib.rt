@@ -1,4 +1,6 @@
 // The ranges of a call's fields: each field is matched by its kind.
+#![tactic(auto)]
+
 ghost use Rattle.std.specs.Prelude.{◌≡◌};
 ghost use Rattle.rules.specs.Call.{is_new_paper, in_range, in_form};
 

@@ -2,7 +2,7 @@
 ghost use Rattle.io.specs.Counts.{IsPrefixLen};
 
 // How many bytes were read to the front of a buffer, and whether a read failed.
-#[derive(Drop)]
+#[derive(Clone, Copy)]
 pub struct Filled {
     pub bytes: usize,
     pub failed: bool,

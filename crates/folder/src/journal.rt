@@ -8,7 +8,7 @@ use crate::output::{print, print_number, say_malformed};
 use rules::Register;
 
 // The register after a piece, whether there may be more to run, and whether nothing went wrong.
-#[derive(Drop)]
+#[derive(Clone, Copy)]
 struct Turn {
     register: Register,
     more: bool,
@@ -16,7 +16,7 @@ struct Turn {
 }
 
 // The register after the calls of a folder, and whether all of them were made: the plan was opened, and no line was malformed.
-#[derive(Drop)]
+#[derive(Clone, Copy)]
 pub struct Shift {
     pub register: Register,
     pub whole: bool,

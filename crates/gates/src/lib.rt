@@ -1,4 +1,6 @@
 // The gates of a plan: the gate with a number, and the gates that limits need.
+#![tactic(auto)]
+
 ghost use Rattle.std.specs.Prelude.{◌≡◌, ◌≤◌};
 ghost use Rattle.lists.specs.Prefix.{prefix};
 ghost use Rattle.rules.specs.Board.{gate_at, needs};

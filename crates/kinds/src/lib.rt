@@ -1,4 +1,6 @@
 // The kinds of authority: which is which, and which are exclusive.
+#![tactic(auto)]
+
 ghost use Rattle.std.specs.Prelude.{◌≡◌};
 ghost use Rattle.rules.specs.Board.{exclusive, is_lpa, is_toa, is_twa};
 

@@ -1,4 +1,6 @@
 // A call line read: the seven numbers of a call in columns of six.
+#![tactic(auto)]
+
 ghost use Rattle.std.specs.Prelude.{◌≡◌, ◌+◌, ◌≤◌, ◌%◌, length, take, drop};
 ghost use Rattle.reading.specs.Reading.{read_column};
 ghost use Rattle.lines.specs.Line.{line_in};
@@ -7,14 +9,14 @@ ghost use Rattle.lines.specs.Steps.{is_mark, read_of};
 use rules::Seven;
 
 // What a call line holds.
-#[derive(Drop)]
+#[derive(Clone, Copy)]
 pub enum Line {
     Call(Seven),
     Malformed,
 }
 
 // A number in six columns as it was read: whether the text is one, at most 65535, and its value.
-#[derive(Drop)]
+#[derive(Clone, Copy)]
 struct Six {
     whole: bool,
     value: u32,

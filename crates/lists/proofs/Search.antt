@@ -20,6 +20,7 @@ module _ {A : Type 0} where
 
   pub any_no : (test : A → Bool) (xs : List A) → any test xs ≡ false → (x : A) → Member x xs → test x ≡ false
   unfolding any
+  any_no test [] h x m = elim m [ ]
   any_no test (y ∷ ys) h x (Memᴰ.head e) = ap test e ∙ or_no_l (test y) (any test ys) h
   any_no test (y ∷ ys) h x (Memᴰ.tail m) = any_no test ys (or_no_r (test y) (any test ys) h) x m
 
@@ -135,6 +136,7 @@ module _ {A : Type 0} where
 
   pub changes_to : (test : A → Bool) (f : A → A) (xs : List A) (x : A) → Member x xs → Member (changed test f x) (change test f xs)
   unfolding change
+  changes_to test f [] x m = elim m [ ]
   changes_to test f (y ∷ ys) x (Memᴰ.head e) = Memᴰ.head (ap (changed test f) e)
   changes_to test f (y ∷ ys) x (Memᴰ.tail m) = Memᴰ.tail (changes_to test f ys x m)
 

@@ -1,4 +1,6 @@
 // The conditions of MOVE and PASSED, and their answers.
+#![tactic(auto)]
+
 ghost use Rattle.std.specs.Prelude.{◌≡◌};
 ghost use Rattle.rules.specs.Board.{gate_at};
 ghost use Rattle.rules.specs.Refusals.{lowest, is_e, is_w, no_room, taken, worked_on, not_there, barred, not_piloted, move_refusals, passed_refusals};

@@ -71,7 +71,7 @@ pub fn run_files(plan: &[u8], calls: &[u8], printing: bool) -> Register
 }
 
 // What is printed of a scenario.
-#[derive(Drop)]
+#[derive(Clone, Copy)]
 pub enum Shown {
     // the journal of its calls
     Journal,

@@ -5,7 +5,7 @@ ghost use Rattle.places.specs.Places.{head_of};
 use rules::Register;
 
 // What a register holds beside its arrays.
-#[derive(Drop)]
+#[derive(Clone, Copy)]
 pub struct Head {
     pub portions: u16,
     pub gate_count: usize,

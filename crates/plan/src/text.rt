@@ -6,7 +6,7 @@ ghost use Rattle.plan.specs.Lines.{line_of, is_head_line, is_gate_line, no_plan,
 use rules::Gate;
 
 // The three numbers of a line; where it is none, zeros from the first column that holds no number.
-#[derive(Drop)]
+#[derive(Clone, Copy)]
 pub struct Line {
     pub whole: bool,
     pub x: u16,
@@ -15,14 +15,14 @@ pub struct Line {
 }
 
 // The gates read, and whether each line was one.
-#[derive(Drop)]
+#[derive(Clone, Copy)]
 pub struct Gates {
     pub ok: bool,
     pub gates: [Gate; 64],
 }
 
 // The plan read, and whether the text was one; no portion and no gate where it was not.
-#[derive(Drop)]
+#[derive(Clone, Copy)]
 pub struct Plan {
     pub ok: bool,
     pub portions: u16,

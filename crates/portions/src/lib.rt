@@ -1,4 +1,6 @@
 // Sets of numbers below 64 (portions of track, or gates) held as one u64: p is a member where binary digit p is 1.
+#![tactic(auto)]
+
 ghost use Rattle.std.specs.Prelude.{◌≡◌};
 ghost use Rattle.portions.specs.Sets as Sets;
 

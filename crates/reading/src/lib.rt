@@ -1,10 +1,12 @@
 // Numbers in fixed columns of text, right-justified behind blanks, read: one column, and a row of columns.
+#![tactic(auto)]
+
 ghost use Rattle.std.specs.Prelude.{◌≡◌, ◌≤◌, length, drop};
 ghost use Rattle.reading.specs.Reading.{blanks, read_column, RowRead};
 ghost use Rattle.reading.specs.Steps.{scan_digits};
 
 // What a text holds.
-#[derive(Drop)]
+#[derive(Clone, Copy)]
 pub enum Read {
     Number(u32),
     Malformed,

@@ -1,4 +1,6 @@
 // A whole register put into the arrays of numbers, and read back from them.
+#![tactic(auto)]
+
 ghost use Rattle.std.specs.Prelude.{◌≡◌};
 ghost use Rattle.places.specs.Places.{gates_in, bookings_in, authorities_in, trains_in, register_in};
 

@@ -1,4 +1,6 @@
 // The cells of the shift sheet's lines: those of a live authority, and those of the last line.
+#![tactic(auto)]
+
 ghost use Rattle.std.specs.Prelude.{◌*◌, ◌^◌, ◌<◌, ◌≡◌, true};
 ghost use Rattle.cells.specs.Cells.{cell_fits, cells_fit};
 ghost use Rattle.rules.specs.Board.{kind_no, board_of};

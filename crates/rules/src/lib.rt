@@ -1,22 +1,24 @@
 // The types that the rules and the code share, and the refusals by name. No function: documents 01 and 02 stand in specs/ as definitions, the
 // theorems in proofs/.
+#![tactic(auto)]
+
 pub mod refusal;
 
 // The four kinds of number that are never taken for one another: those of authorities, of trains, of gates, and of the papers that book a gate out of use.
-#[derive(Drop)]
+#[derive(Clone, Copy)]
 pub struct AuthorityNo(pub u16);
 
-#[derive(Drop)]
+#[derive(Clone, Copy)]
 pub struct TrainNo(pub u16);
 
-#[derive(Drop)]
+#[derive(Clone, Copy)]
 pub struct GateNo(pub u16);
 
-#[derive(Drop)]
+#[derive(Clone, Copy)]
 pub struct PaperNo(pub u16);
 
 // The kinds of authority. LPA and TOA are exclusive.
-#[derive(Drop)]
+#[derive(Clone, Copy)]
 pub enum Kind {
     Lpa,
     Toa,
@@ -24,7 +26,7 @@ pub enum Kind {
 }
 
 // A call as it is handed in: seven numbers of 16 bits.
-#[derive(Drop)]
+#[derive(Clone, Copy)]
 pub struct Seven {
     pub day: u16,
     pub time: u16,
@@ -36,7 +38,7 @@ pub struct Seven {
 }
 
 // The kinds of field of a call; each has a range of its own.
-#[derive(Drop)]
+#[derive(Clone, Copy)]
 pub enum Field {
     Unused,
     Kind,
@@ -59,7 +61,7 @@ pub enum Field {
 }
 
 // The kinds of a call's four fields.
-#[derive(Drop)]
+#[derive(Clone, Copy)]
 pub struct Form {
     pub a: Field,
     pub b: Field,
@@ -68,7 +70,7 @@ pub struct Form {
 }
 
 // A call with its fields named, or what is wrong with its number or its fields.
-#[derive(Drop)]
+#[derive(Clone, Copy)]
 pub enum Call {
     NoSuchCall,
     BadField,
@@ -155,7 +157,7 @@ pub enum Call {
 }
 
 // A gate: traffic goes from one portion to another; 99 is outside the board.
-#[derive(Drop)]
+#[derive(Clone, Copy)]
 pub struct Gate {
     pub from: u16,
     pub to: u16,
@@ -163,7 +165,7 @@ pub struct Gate {
 }
 
 // A gate's booking: the paper that it is booked out of use under, 0 where it isn't out, and the paper that this one replaced, or 0.
-#[derive(Drop)]
+#[derive(Clone, Copy)]
 pub struct Booking {
     pub paper: PaperNo,
     pub replaced: PaperNo,
@@ -171,7 +173,7 @@ pub struct Booking {
 
 // A live authority. The limits are a set of portions (crate portions); agreed is the authority whose officer's agreement it rests on, a TWA's TOA
 // by AGREE and a TOA's TWA by JOIN, or 0; start is the minute in which its term starts and length the term's minutes, both 0 where it has none.
-#[derive(Drop)]
+#[derive(Clone, Copy)]
 pub struct Authority {
     pub number: AuthorityNo,
     pub kind: Kind,
@@ -185,7 +187,7 @@ pub struct Authority {
 }
 
 // A train on the board: its head and rear portion, and the authority it is with, or 0. The head may be outside, 99.
-#[derive(Drop)]
+#[derive(Clone, Copy)]
 pub struct Train {
     pub number: TrainNo,
     pub head: u16,
@@ -195,7 +197,7 @@ pub struct Train {
 
 // The board's whole state. Of each array only the first places, as many as its count says, are in use; authorities and trains stand by ascending number.
 // bookings has a place for each gate; blocks is a set of gates; last is the last number allotted; day and time are the stamp of the last accepted call.
-#[derive(Drop)]
+#[derive(Clone, Copy)]
 pub struct Register {
     pub portions: u16,
     pub gate_count: usize,
@@ -212,14 +214,14 @@ pub struct Register {
 }
 
 // What opening returns: the register, and 0 or the refusal.
-#[derive(Drop)]
+#[derive(Clone, Copy)]
 pub struct Opened {
     pub register: Register,
     pub answer: u16,
 }
 
 // What a call returns: the register, 0 or the refusal, and the number allotted or 0.
-#[derive(Drop)]
+#[derive(Clone, Copy)]
 pub struct Called {
     pub register: Register,
     pub answer: u16,

@@ -1,4 +1,6 @@
 // The shift sheet: a page of the live authorities for the outgoing supervisor to sign.
+#![tactic(auto)]
+
 mod page;
 
 pub use page::{Written, write_sheet};

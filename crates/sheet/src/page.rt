@@ -12,7 +12,7 @@ use rules::Register;
 use rules::refusal::SHORT_PAGE;
 
 // 0 or the refusal, and how many lines were written.
-#[derive(Drop)]
+#[derive(Clone, Copy)]
 pub struct Written {
     pub answer: u16,
     pub lines: usize,

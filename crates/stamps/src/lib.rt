@@ -1,4 +1,6 @@
 // The stamp of a call: its day and time, whether they are in their ranges, and the minute that they are.
+#![tactic(auto)]
+
 ghost use Rattle.std.specs.Prelude.{◌≡◌, ◌&&◌};
 ghost use Rattle.rules.specs.Call.{is_day, is_time, minute_of};
 

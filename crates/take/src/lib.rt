@@ -1,4 +1,6 @@
 // One call as a whole, but for its line, on a register's head and lent arrays: it is read, answered, and done if it is accepted.
+#![tactic(auto)]
+
 ghost use Rattle.std.specs.Prelude.{◌≡◌};
 ghost use Rattle.rules.specs.Call.{decoded};
 ghost use Rattle.rules.specs.Refusals.{early};
@@ -60,7 +62,7 @@ fn answer(
 }
 
 // What a call with room for its line leaves beside the arrays.
-#[derive(Drop)]
+#[derive(Clone, Copy)]
 pub struct Taken {
     pub head: Head,
     pub answer: u16,

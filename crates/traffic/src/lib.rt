@@ -1,4 +1,6 @@
 // The trains on the board, a dense prefix of the places by ascending number: changes that keep it so.
+#![tactic(auto)]
+
 ghost use Rattle.std.specs.Prelude.{◌≡◌, ◌+◌, ◌≤◌, ◌<◌};
 ghost use Rattle.lists.specs.Search.{keep, change};
 ghost use Rattle.lists.specs.Prefix.{prefix};
@@ -12,7 +14,7 @@ use places::{put_train, train_at};
 use rules::{AuthorityNo, Train, TrainNo};
 
 // What becomes of trains.
-#[derive(Drop)]
+#[derive(Clone, Copy)]
 pub enum TrainChange {
     // the head of the train goes to the portion, with the authority
     Head(TrainNo, u16, AuthorityNo),

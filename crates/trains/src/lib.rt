@@ -1,4 +1,6 @@
 // The trains on the board, a dense prefix of the places by ascending number: searches.
+#![tactic(auto)]
+
 ghost use Rattle.std.specs.Prelude.{◌≡◌, ◌≤◌};
 ghost use Rattle.lists.specs.Search.{any};
 ghost use Rattle.lists.specs.Prefix.{prefix};
@@ -11,7 +13,7 @@ use places::train_at;
 use rules::{Authority, AuthorityNo, Train, TrainNo};
 
 // What is looked for among the trains, at their head or their rear.
-#[derive(Drop)]
+#[derive(Clone, Copy)]
 pub enum TrainQuery {
     // one that touches the set of portions
     Touching(u64),
@@ -21,7 +23,7 @@ pub enum TrainQuery {
     OtherAt(TrainNo, u16),
 }
 
-#[derive(Drop)]
+#[derive(Clone, Copy)]
 pub enum FoundTrain {
     Is(Train),
     Nothing,
