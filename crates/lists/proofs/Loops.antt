@@ -235,14 +235,14 @@ pub record Inserting {A : Type 0} (number : A → ℕ) (x : A) (l now : List A) 
   pub place : Reached l count i
   pub room : length now ≡ 32
   pub so_far : prefix i now ++ (hand ∷ []) ≡ insert_by number x (prefix i l)
-  pub higher-met : met ≡ any (higher number x) (prefix i l)
+  pub higher_met : met ≡ any (higher number x) (prefix i l)
   pub rest : drop i now ≡ drop i l
   pub waiting : met ≡ false → (hand ≡ x) × (now ≡ l)
 
 pub inserting_start : {A : Type 0} {number : A → ℕ} {x : A} {l : List A} {count : ℕ} → count < 32 → length l ≡ 32 → Inserting number x l l count 0 x false
 unfolding insert_by any
 inserting_start fits places =
-    record { place = start (omega arith) places; room = places; so_far = rw prefix_none; higher-met = rw prefix_none; rest = refl; waiting = λ e. (refl, refl) }
+    record { place = start (omega arith) places; room = places; so_far = rw prefix_none; higher_met = rw prefix_none; rest = refl; waiting = λ e. (refl, refl) }
 
 module _ {A : Type 0} {number : A → ℕ} {x : A} {l now : List A} {count i : ℕ} {hand : A} {met : Bool} (at : Inserting number x l now count i hand met) where
   pub inserting_end : count ≤ i → count < 32 → {next : List A} → next ≡ set now count hand
@@ -261,7 +261,7 @@ module _ {A : Type 0} {number : A → ℕ} {x : A} {l now : List A} {count i : �
 
     met_next : (met || ltb (number x) (number y)) ≡ any (higher number x) (prefix (i + 1) l)
     unfolding any
-    met_next = rw (one_further, any_append (higher number x) (prefix i l) (y ∷ []), at.higher-met, or-false)
+    met_next = rw (one_further, any_append (higher number x) (prefix i l) (y ∷ []), at.higher_met, or-false)
 
     -- y is behind x: the one in hand takes its place, and y is in hand
     pub inserting_hit : (met || ltb (number x) (number y)) ≡ true → {next : List A} {hand' : A} {met' : Bool} → next ≡ set now i hand → hand' ≡ y → met' ≡ true
@@ -273,7 +273,7 @@ module _ {A : Type 0} {number : A → ℕ} {x : A} {l now : List A} {count i : �
           place = further p more;
           room = rw (stored, length-set) at.room;
           so_far = rw (stored, taken, stored_last now i hand (omega (arith, at.room)), at.so_far, one_further, insert_behind number x (prefix i l) y (rw one_further at some));
-          higher-met = is ∙ sym some;
+          higher_met = is ∙ sym some;
           rest = rw (stored, drop-set-lt (i + 1) now i hand (omega arith)) (same_behind l now i at.rest);
           waiting = λ f. clash is f;
         }
@@ -289,7 +289,7 @@ module _ {A : Type 0} {number : A → ℕ} {x : A} {l now : List A} {count i : �
           place = further p more;
           room = rw kept at.room;
           so_far = rw (kept, same, w.0, w.1, insert_last number x (prefix (i + 1) l) none);
-          higher-met = unmet ∙ or_no_l met (ltb (number x) (number y)) e ∙ sym none;
+          higher_met = unmet ∙ or_no_l met (ltb (number x) (number y)) e ∙ sym none;
           rest = rw kept (same_behind l now i at.rest);
           waiting = λ f. (same ∙ w.0, kept ∙ w.1);
         }

@@ -10,20 +10,20 @@ use lib.Seq.{take_all, take-suc, take-suc-set}
 -- of the n elements the first i are stored
 pub record Copied {A : Type 0} (n i : ℕ) (source target : List A) : Type 0 where
   pub within : i ≤ n
-  pub source-length : length source ≡ n
-  pub target-length : length target ≡ n
+  pub source_length : length source ≡ n
+  pub target_length : length target ≡ n
   pub stored : take i target ≡ take i source
 
 module _ {A : Type 0} {n : ℕ} {source target : List A} where
   pub copy_start : length source ≡ n → length target ≡ n → Copied n 0 source target
-  copy_start s t = record { within = omega arith; source-length = s; target-length = t; stored = refl }
+  copy_start s t = record { within = omega arith; source_length = s; target_length = t; stored = refl }
 
   pub copy_next : {i : ℕ} {target' : List A} (d : A) → i < n → Copied n i source target → target' ≡ set target i (get_or source i d)
       → Copied n (i + 1) source target'
   copy_next {i} d h c e = record {
     within = omega arith;
-    source-length = c.source-length;
-    target-length = ap length e ∙ length-set target i (get_or source i d) ∙ c.target-length;
+    source_length = c.source_length;
+    target_length = ap length e ∙ length-set target i (get_or source i d) ∙ c.target_length;
     stored = rw (e, add-one i, take-suc-set target i (get_or source i d) (omega arith), take-suc source i d (omega arith), c.stored);
   }
 

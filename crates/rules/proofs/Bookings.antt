@@ -180,7 +180,7 @@ booked_opened portions gates = record {
 -- THEOREM: on a board opened from any plan text, after any list of calls, each gate has a place for its booking, only plain automatic signals are out,
 -- and each gate whose block is on can be blocked
 pub list_booked : (text : List ℕ) (ms : List Made) → Booked (final (open_board text) ms)
-list_booked text ms = let o = fresh text in booked_final (open_board text) ms (subst Booked (sym o.is-opened) (booked_opened o.portions o.gates))
+list_booked text ms = let o = fresh text in booked_final (open_board text) ms (subst Booked (sym o.is_opened) (booked_opened o.portions o.gates))
 
 -- ---- limits in force stay protected
 

@@ -71,10 +71,16 @@ turn_authority x y s = record {
 }
 
 in_order_sym : (xs ys : List Authority) → InOrder SameAuthority xs ys → InOrder SameAuthority ys xs
+in_order_sym [] (y ∷ ys) s = elim s [ ]
+in_order_sym (x ∷ xs) [] s = elim s [ ]
 in_order_sym [] [] s = tt
 in_order_sym (x ∷ xs) (y ∷ ys) s = (turn_authority x y s.0, in_order_sym xs ys s.1)
 
 in_order_trans : (xs ys zs : List Authority) → InOrder SameAuthority xs ys → InOrder SameAuthority ys zs → InOrder SameAuthority xs zs
+in_order_trans [] [] (z ∷ zs) s t = elim t [ ]
+in_order_trans [] (y ∷ ys) zs s t = elim s [ ]
+in_order_trans (x ∷ xs) [] zs s t = elim s [ ]
+in_order_trans (x ∷ xs) (y ∷ ys) [] s t = elim t [ ]
 in_order_trans [] [] [] s t = tt
 in_order_trans (x ∷ xs) (y ∷ ys) (z ∷ zs) s t = (then_authority x y z s.0 t.0, in_order_trans xs ys zs s.1 t.1)
 
@@ -125,6 +131,7 @@ pub record SameSets (b c : Board) : Type 0 where
   pub trains' : EachIn (λ x y. x ≡ y) c.trains b.trains
 
 in_order_each : {A : Type 0} (Like : A → A → Type 0) (xs ys : List A) → InOrder Like xs ys → EachIn Like xs ys
+in_order_each {A = A} Like (z ∷ zs) [] s x m = elim s [ ]
 in_order_each Like [] ys s x m = elim m [ ]
 in_order_each Like (z ∷ zs) (w ∷ ws) s x m =
     ⊎_elim (λ e. (w, Memᴰ.head refl, subst (λ (a : _). Like a w) (sym e) s.0))
@@ -176,6 +183,8 @@ module _ {A : Type 0} (number : A → ℕ) (Like : A → A → Type 0) (like-num
       )
 
 in_order_equal : {A : Type 0} (xs ys : List A) → InOrder (λ x y. x ≡ y) xs ys → xs ≡ ys
+in_order_equal {A = A} [] (y ∷ ys) s = elim s [ ]
+in_order_equal {A = A} (x ∷ xs) [] s = elim s [ ]
 in_order_equal [] [] s = refl
 in_order_equal (x ∷ xs) (y ∷ ys) s = ap₂ (λ a l. a ∷ l) s.0 (in_order_equal xs ys s.1)
 
@@ -212,6 +221,8 @@ equal_authority : (x y : Authority) → SameAuthority x y → x.agreed.0 ≡ y.a
 equal_authority x y s e = rw (s.number, s.kind, s.limits, s.officer, s.stage, s.site, e, s.start, s.length)
 
 equal_authorities : (xs ys : List Authority) → NoneOfLpas xs → NoneOfLpas ys → InOrder SameAuthority xs ys → xs ≡ ys
+equal_authorities [] (y ∷ ys) f g s = elim s [ ]
+equal_authorities (x ∷ xs) [] f g s = elim s [ ]
 equal_authorities [] [] f g s = refl
 equal_authorities (x ∷ xs) (y ∷ ys) f g s =
     ap₂ (λ a l. a ∷ l)

@@ -183,7 +183,7 @@ unfolding opened Ascending
 once_opened portions gates = record { authorities = tt; trains = tt; live = omega arith; running = omega arith; last = omega arith; allotted = λ a m. elim m [ ] }
 
 pub once_open : (text : List ℕ) → Once (open_board text)
-once_open text = let o = fresh text in subst Once (sym o.is-opened) (once_opened o.portions o.gates)
+once_open text = let o = fresh text in subst Once (sym o.is_opened) (once_opened o.portions o.gates)
 
 -- ---- what it tells
 

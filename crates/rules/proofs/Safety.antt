@@ -130,8 +130,8 @@ text_holds : (text : List ℕ) (ms : List Made)
 unfolding opened
 text_holds text ms =
     let o = fresh text in
-    subst (λ (b : Board). Holds b.gates (final b ms) (reckoned b.gates start (trace b ms))) (sym o.is-opened)
-    (opened_holds o.portions o.gates o.few-portions o.few-gates ms)
+    subst (λ (b : Board). Holds b.gates (final b ms) (reckoned b.gates start (trace b ms))) (sym o.is_opened)
+    (opened_holds o.portions o.gates o.few_portions o.few_gates ms)
 
 -- THEOREM, demand 3: any plan text, a refused one too, and any list of calls; the answers are those of `trace`
 pub demand_3 : (text : List ℕ) (ms : List Made)
