@@ -3,15 +3,11 @@ use lib.Bits.{or_lt}
 use Rattle.portions.specs.Sets.{in_either, union}
 use Rattle.portions.proofs.Bits.{has_or}
 use Rattle.portions.proofs.Laws.{is_set_of}
-use Rattle.portions.proofs.union.Statement.{statement}
-use Rattle.portions.proofs.union.Tie as tie
+use Rattle.portions.proofs.union.Goals as goal
 
-returns : tie.Need-returns
+pub returns : goal.returns
 unfolding union
 returns c =
     let a = c.args.a in
     let b = c.args.b in
     is_set_of 64 _ (in_either a b) (or_lt 64 a b c.ranges.a.fits c.ranges.b.fits) (λ p l. has_or p a b)
-
-pub union-spec : {M : Type 1} → statement M
-union-spec = tie.close (tie.spec returns)
