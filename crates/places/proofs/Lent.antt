@@ -52,7 +52,7 @@ module _ {M : Type 1} {𝓤 : Ura M} (𝓛 : Logic 𝓤) (R : RattleType) (k : �
   opened κ q x =
       qed 𝓛 (‵ ((MutRef erased κ (Array R k)).own_val x) ∷ ‵ (flft κ q) ∷ [])
       {P = H.⇛ (guard 𝓤 (length x.now ≡ k) (sep 𝓤 (sem 𝓛 ((MutRef erased κ (Array R k)).own_val x)) (A.lft κ q)))} (
-      updating ! $ fsplit ! $ opens ! tt (Array R k) x.ptr.0 x.ptr.1 (λ vs.
+      updating ! $ fsplit ! $ opens ! tt (Array R k) x.ref_ptr.0 x.ref_ptr.1 (λ vs.
       move ! (1 ∷ []) $ peeks ! (Array R k) (Is (Array R k)) (shows 𝓛 (Array R k)) x.now vs (λ is.
       move ! (1 ∷ 0 ∷ []) $ closes ! tt (Array R k) x.now vs x.ref_ptr.0 x.ref_ptr.1 $
       fjoin ! $ now ! $ check ! is.1.0.1 $ done !)))

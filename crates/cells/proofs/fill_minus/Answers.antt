@@ -8,12 +8,12 @@ use Rattle.cells.proofs.fill_minus.Goals as goal
 use Rattle.cells.proofs.fill_minus.Goals.{After-blanks_of-at}
 
 -- the number is in its column, and the blanks before it are counted
-signed : (c : After-blanks_of-at) → let w = length c.before.before.before.args.t.now in
-    let n = c.before.before.before.args.n in
+signed : (c : After-blanks_of-at) → let w = length c.args.t.now in
+    let n = c.args.n in
     (1 ≤ c.blanks_of-at.result) × (c.blanks_of-at.result - 1 < length c.fill_column.new.t)
     × (set c.fill_column.new.t (c.blanks_of-at.result - 1) 45 ≡ cell w (Minus n))
 signed c =
-    let p = c.before.before.before.requires in
+    let p = c.requires in
     sign_step _ _ _ _ (filled_column _ _ _ _ c.fill_column.ensures (minus_number _ _ p)) c.blanks_of-at.ensures p
 
 pub overflow_sub-at : goal.overflow_sub-at
