@@ -1,0 +1,11 @@
+-- `rows::authority_cells` meets its contract. Assumes nothing.
+use Rattle.std.proofs.Common.{rules}
+use Rattle.rows.proofs.Fitting.{authority_line_lem}
+use Rattle.rows.proofs.authority_cells.Goals as goal
+
+pub returns : goal.returns
+returns c =
+    let agreed = c.struct_known-3-1.given.1.1.1.1.1.1.0.0 in
+    authority_line_lem _ _ _ _ _ _ _ _ (search rules) (search rules) agreed.fits
+    c.kind_no.ensures c.least.ensures c.greatest.ensures c.stage_no.ensures
+    c.site_no.ensures c.minutes_in_hand.ensures

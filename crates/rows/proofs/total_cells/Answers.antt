@@ -1,0 +1,10 @@
+-- `rows::total_cells` meets its contract. Assumes nothing.
+use Rattle.std.proofs.Common.{ap, ◌∙◌}
+use Rattle.portions.specs.Sets.{size}
+use Rattle.rules.specs.Board.{board_of}
+use Rattle.rows.proofs.Fitting.{total_line_lem}
+use Rattle.rows.proofs.total_cells.Goals as goal
+
+pub returns : goal.returns
+unfolding board_of
+returns c = total_line_lem _ _ _ (c.size.ensures ∙ ap size c.held_portions.ensures) c.size-2.ensures
