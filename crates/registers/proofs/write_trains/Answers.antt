@@ -1,0 +1,15 @@
+-- `registers::write_trains` meets its contract. The invariant: the first i trains are stored. Assumes nothing.
+use Rattle.std.proofs.Common.{arith}
+use Rattle.lists.proofs.Prefix.{unmapped}
+use Rattle.places.proofs.Registers.{trains_length}
+use Rattle.registers.proofs.Copying.{copy_start, copy_next, copy_end}
+use Rattle.registers.proofs.write_trains.Goals as goal
+
+pub loop-i-init : goal.loop-i-init
+loop-i-init c = copy_start (search unmapped) (trains_length _)
+
+pub loop-i-preserved : goal.loop-i-preserved
+loop-i-preserved c = copy_next _ (omega arith) c.loop-i.invariant c.put_train.ensures
+
+pub returns : goal.returns
+returns c = copy_end (omega arith) c.loop-i.invariant
