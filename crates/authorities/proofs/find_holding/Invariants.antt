@@ -1,0 +1,11 @@
+use Rattle.std.proofs.Common.{◌-◌}
+use Rattle.places.specs.Places.{authorities_in}
+use Rattle.authorities.specs.Authorities.{found_in, holds_portion}
+use Rattle.lists.proofs.Loops.{Searching}
+use Rattle.authorities.proofs.find_holding.Given as goal
+
+abbrev pub invariant-loop-i : goal.invariant-loop-i
+invariant-loop-i l = Searching (found_in (holds_portion l.exclusively l.p)) (authorities_in l.authorities) l.live l.i
+
+abbrev pub decreases-loop-i : goal.decreases-loop-i
+decreases-loop-i l = l.live - l.i
