@@ -13,7 +13,7 @@ use Rattle.rules.specs.declared.AuthorityNo.{AuthorityNo}
 use Rattle.rules.specs.declared.Authority.{Authority}
 use Rattle.rules.specs.declared.Seven.{Seven}
 use Rattle.rules.specs.declared.Call.TheVariants.{Withdraw, Clear, Reoccupy, HandOver, Fulfil, Continue}
-use Rattle.rules.specs.Board.{Board, is_lpa, authority_no, is_authority, live, authority}
+use Rattle.rules.specs.Board.{Board, authority_no, is_authority, live, authority}
 use Rattle.rules.specs.Call.{named}
 use Rattle.rules.specs.Plan.{open_board}
 use Rattle.rules.specs.Refusals.{answer}

@@ -6,13 +6,13 @@ use native.Mathlib.Omega.{arith}
 use native.Mathlib.Decide.{ℕ_discrete}
 use mathlib.Core.Path.{◌≡◌, refl, sym, ap, subst, ◌∙◌}
 use mathlib.Core.Logic.{⊎_elim}
-use mathlib.Core.Bool.{Bool, true, false, cond, not, ◌&&◌, ◌||◌, false≢true}
+use mathlib.Core.Bool.{Bool, true, false, cond, not, ◌||◌}
 use mathlib.Core.List.{List, [], ◌∷◌}
-use lib.ListN.{length, set, get_or, replicate, length-set, length-replicate}
+use lib.ListN.{length, set, replicate, length-set, length-replicate}
 use lib.Seq.{get_or-set_same, get_or-set_other}
 use lib.Dec.{eqb}
 use borrow.Author.Tests.{eqb-true, ne_eqb}
-use Rattle.lists.proofs.Tests.{told, shown, truth, clash, or_cases, or_yes_l, or_yes_r, not_no, not_yes, and_i, and_no_r}
+use Rattle.lists.proofs.Tests.{truth, clash, or_yes_r, not_no}
 use Rattle.portions.specs.Sets.{has, insert, remove}
 use Rattle.portions.proofs.Bits.{has_none}
 use Rattle.portions.proofs.Laws.{in_insert, in_remove}

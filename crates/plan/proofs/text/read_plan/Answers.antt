@@ -17,11 +17,10 @@ returns-then-text-count c = rw c.refused-then-text-count.ensures (not_long _ _ c
 head_read : (c : Else-text-count) → HeadRead c.args.text.now c.read_line-head.result
 head_read c =
     record {
-  taken = c.read_line-head.ensures;
-  head = sym c.is_head.ensures ∙ c.if-not-is_head.false;
-  long = c.if-text-count.false;
-
-}
+      taken = c.read_line-head.ensures;
+      head = sym c.is_head.ensures ∙ c.if-not-is_head.false;
+      long = c.if-text-count.false;
+    }
 
 pub read_gates-g-requires : goal.read_gates-g-requires
 read_gates-g-requires c = gates_asked _ _ (head_read (goal.at.read_gates-g-requires c).Else-text-count)

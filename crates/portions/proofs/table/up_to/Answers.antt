@@ -20,6 +20,6 @@ unfolding up_to run set_of
 returns c =
     entry up_to 64 c.if-place-gt63.place (in_table (goal.at.returns c).Joined-place-gt63)
     ∙ elim c.if-place-gt63.branch [
-      then-place-gt63 w ↦ ap up_to w.place-is ∙ up_to_all c.args.n (omega arith)
-    | else-place-gt63 w ↦ ap up_to w.place-is
+      | then-place-gt63 w ↦ ap up_to w.place-is ∙ up_to_all c.args.n (omega arith)
+      | else-place-gt63 w ↦ ap up_to w.place-is
     ]
