@@ -17,17 +17,20 @@ from pathlib import Path
 NAME = r"[^\W\d][\w'₀-₉-]*"
 DEFINED = re.compile(rf"^\s*(?:(?:abbrev|unfoldable|pub|data|record|ruleset)\s+)*({NAME})\s+(?::|=\s*\()")
 TOKEN = re.compile(rf"(?<![\w'.₀-₉-])((?:[A-Z]\w*\.)*)({NAME})(?![\w'])")
-# The first two in snake case would be fields of the Rust struct that they are asked of; the others are lemmas that port.py respelled to the
-# name that a definition gets here.
+# The first two in snake case would be fields of the Rust struct that they are asked of; then an operator, and variables that are called as
+# fields are; the others are lemmas that port.py respelled to the name that a definition gets here.
 CHOSEN = {
     "inForce": "is_in_force",
     "workersOn": "has_workers_on",
+    "thenRun": "then_run",
+    "officerOld": "officer_old",
+    "officerNew": "officer_new",
     "not_live": "not_live_lem",
     "line_on": "line_on_lem",
     "row_from": "row_from_lem",
     "no_room": "no_room_lem",
 }
-FIELD = re.compile(rf"(?<=\.)({NAME})")
+WORD = re.compile(rf"(?<![\w'₀-₉-])({NAME})(?![\w'])")
 
 
 def sources():
@@ -35,8 +38,8 @@ def sources():
 
 
 def is_law_file(path):
-    """A file of definitions or lemmas, and not the proof of a function."""
-    return path.suffix == ".antt" and path.name not in ("Proof.antt", "Answers.antt", "Invariants.antt")
+    """A file of definitions or lemmas, and not the proof of a function: those lie in folders of proofs/."""
+    return path.suffix == ".antt" and path.parent.name in ("specs", "proofs")
 
 
 def definitions():
@@ -85,9 +88,15 @@ def respellings():
     return {o: n + "_lem" if "-" in o and n in held else n for o, n in new.items() if o != n}
 
 
-def respelled(text, new):
-    text = TOKEN.sub(lambda m: m[1] + new.get(m[2], m[2]), text)
-    return FIELD.sub(lambda m: new[m[1]] if m[1] in new and "-" not in m[1] else m[1], text)
+def respelled(path, new):
+    """The text of a file, respelled. Behind a value's dot a name with a dash is the toolchain's, but in a file of definitions or lemmas."""
+    text = path.read_text()
+
+    def one(found):
+        name, behind = found[1], text[found.start() - 1 : found.start()] == "."
+        return name if behind and "-" in name and not is_law_file(path) else new.get(name, name)
+
+    return WORD.sub(one, text)
 
 
 def falls_together(new):
@@ -119,10 +128,7 @@ def main():
     if bad:
         sys.exit(1)
     for path in sources():
-        text = path.read_text()
-        changed = respelled(text, new)
-        if changed != text:
-            path.write_text(changed)
+        path.write_text(respelled(path, new))
     print(f"respelled: {len(new)} names")
 
 

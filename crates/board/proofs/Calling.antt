@@ -13,7 +13,7 @@ use Rattle.rules.specs.Board.{Board, board_of}
 use Rattle.rules.specs.Refusals.{lowest, conditions, answer}
 use Rattle.rules.specs.Journal.{journal_line}
 use Rattle.rules.specs.Step.{Kept, after, allotted, CallPost}
-use Rattle.rules.proofs.Answers.{refused-same, refused_none, short-answer, short-line, long-line}
+use Rattle.rules.proofs.Answers.{refused_same, refused_none, short_answer, short_line, long_line}
 use Rattle.take.specs.Lent.{TakePost}
 use Rattle.take.specs.Faults.{with_room}
 
@@ -25,7 +25,7 @@ module _ {r r₀ r' : Register} {s : Seven} {given number : ℕ} (is : r₀ ≡ 
   spread_refused k n =
       let q = subst (λ (r : Register). TakePost r s r' given number) is p in
       record {
-        board = sym (refused-same (board_of r) s 55 (λ z. n (q.answered ∙ z)));
+        board = sym (refused_same (board_of r) s 55 (λ z. n (q.answered ∙ z)));
         answered = q.answered;
         number = q.number;
         kept = k;
@@ -53,13 +53,13 @@ room-allotted b s room h = rw (room-answer b s room h)
 pub called_short : (r : Register) (s : Seven) (buffer : List ℕ) → Kept r → length buffer < 55
     → CallPost r s buffer (record { register = r; answer = 1; number = 0 }) buffer
 called_short r s buffer k h =
-    let one : answer (board_of r) s (length buffer) ≡ 1 = short-answer (board_of r) s (length buffer) h in
+    let one : answer (board_of r) s (length buffer) ≡ 1 = short_answer (board_of r) s (length buffer) h in
     let no : answer (board_of r) s (length buffer) ≡ 0 → ⊥ = λ z. omega arith in
     record {
-      board = sym (refused-same (board_of r) s (length buffer) no);
+      board = sym (refused_same (board_of r) s (length buffer) no);
       answered = sym one;
       number = sym (refused_none (board_of r) s (length buffer) no);
-      line = sym (short-line s 1 0 buffer h);
+      line = sym (short_line s 1 0 buffer h);
       kept = k;
     }
 
@@ -69,6 +69,6 @@ called_long r s buffer buffer' out h p e = record {
   board = p.board ∙ sym (room_after (board_of r) s (length buffer) h);
   answered = p.answered ∙ sym (room-answer (board_of r) s (length buffer) h);
   number = p.number ∙ sym (room-allotted (board_of r) s (length buffer) h);
-  line = e ∙ sym (long-line s out.answer out.number buffer h);
+  line = e ∙ sym (long_line s out.answer out.number buffer h);
   kept = p.kept;
 }

@@ -31,7 +31,7 @@ use Rattle.rules.specs.Journal.{journal_line}
 use Rattle.rules.specs.Step.{Made, Answered, after, trace, final, Kept}
 use Rattle.rules.specs.Reckoning.{start, reckoned}
 use Rattle.rules.specs.Claim.{Safe}
-use Rattle.rules.proofs.Answers.{NoneHolds, Refused, accepted-none, none-accepted, refused-lowest, lowest-refused, refused-same, refused_none, short-line, long-line}
+use Rattle.rules.proofs.Answers.{NoneHolds, Refused, accepted_none, none_accepted, refused_lowest, lowest_refused, refused_same, refused_none, short_line, long_line}
 use Rattle.rules.proofs.Once.{held_once}
 use Rattle.rules.proofs.Equality.{equal_same, NoneOfLpas, same_equal}
 use Rattle.rules.proofs.Safety.{demand_3}
@@ -163,10 +163,10 @@ module _ (κs : Lfts 1) (a : Dens κs call-kinds.ps) (out : Called) (x : AtExit 
 
   -- demand 2: accepted if and only if no condition holds; refused with n if and only if condition n holds and none lower does
   pub accepted_iff : (out.answer ≡ 0 → NoneHolds (conditions b s room)) × (NoneHolds (conditions b s room) → out.answer ≡ 0)
-  accepted_iff = (λ e. accepted-none b s room (sym p.answered ∙ e), λ h. p.answered ∙ none-accepted b s room h)
+  accepted_iff = (λ e. accepted_none b s room (sym p.answered ∙ e), λ h. p.answered ∙ none_accepted b s room h)
 
   pub refused_iff : (n : ℕ) → (0 < n → out.answer ≡ n → Refused n (conditions b s room)) × (Refused n (conditions b s room) → out.answer ≡ n)
-  refused_iff n = (λ h e. refused-lowest b s room n (sym p.answered ∙ e) h, λ h. p.answered ∙ lowest-refused b s room n h)
+  refused_iff n = (λ h e. refused_lowest b s room n (sym p.answered ∙ e) h, λ h. p.answered ∙ lowest_refused b s room n h)
 
   -- demand 1: what a call returns and writes is 01's; a refused one returns the register as it was, and authority number 0
   pub returns_same : Same (board_of out.register) (after b s room)
@@ -175,13 +175,13 @@ module _ (κs : Lfts 1) (a : Dens κs call-kinds.ps) (out : Called) (x : AtExit 
   pub refused_keeps : (out.answer ≡ 0 → ⊥) → (board_of out.register ≡ b) × (out.number ≡ 0)
   refused_keeps h =
       let no : answer b s room ≡ 0 → ⊥ = λ z. h (p.answered ∙ z) in
-      (p.board ∙ refused-same b s room no, p.number ∙ refused_none b s room no)
+      (p.board ∙ refused_same b s room no, p.number ∙ refused_none b s room no)
 
   pub short_stays : room < 55 → buffer' ≡ buffer
-  short_stays h = p.line ∙ short-line s out.answer out.number buffer h
+  short_stays h = p.line ∙ short_line s out.answer out.number buffer h
 
   pub long_written : 55 ≤ room → buffer' ≡ journal_line s out.answer out.number ++ drop 55 buffer
-  long_written h = p.line ∙ long-line s out.answer out.number buffer h
+  long_written h = p.line ∙ long_line s out.answer out.number buffer h
 
   -- order 6: a needed gate that is blocked can't be restored: no BOOK IN that would restore it is accepted
   pub not_restored : {text : List ℕ} {ms : List Made} {cs : List Answered} → Ran text ms cs a.0 → (n : ℕ) (g : GateNo) → Needed text cs n g.0

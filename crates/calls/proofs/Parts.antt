@@ -21,7 +21,7 @@ use Rattle.lines.specs.declared.Line.{Line}
 use Rattle.lines.specs.declared.Line.TheVariants.{Call, Malformed}
 use Rattle.lines.specs.Line.{line_in}
 use Rattle.calls.specs.Lines.{unless_malformed, calls_in}
-use Rattle.calls.specs.Run.{made, journal, Run, run_of, ◌thenRun◌}
+use Rattle.calls.specs.Run.{made, journal, Run, run_of, ◌then_run◌}
 
 -- ---- a run call by call
 
@@ -47,7 +47,7 @@ module _ (b : Board) (text : List ℕ) where
   run_malformed n e = rw (e, eqb-zero-suc n)
 
   pub run_call : (n : ℕ) (c : Seven) → line_in (take 43 text) ≡ Call c
-      → run_of (suc n) b text ≡ (going (after b c 55) (line_on b c) 1 thenRun run_of n (after b c 55) (drop 43 text))
+      → run_of (suc n) b text ≡ (going (after b c 55) (line_on b c) 1 then_run run_of n (after b c 55) (drop 43 text))
   unfolding run_of calls_in journal final
   run_call n c e =
       let rest = length (calls_in n (drop 43 text)) in
@@ -58,10 +58,10 @@ module _ (b : Board) (text : List ℕ) where
 
 -- a third behind two is a second and a third behind one
 going_then : (b : Board) (text : List ℕ) (lines : ℕ) (r s : Run)
-    → (going b text lines thenRun (r thenRun s)) ≡ ((going b text lines thenRun r) thenRun s)
+    → (going b text lines then_run (r then_run s)) ≡ ((going b text lines then_run r) then_run s)
 going_then b text lines r s = go r.stopped refl
   where
-    go : (z : Bool) → r.stopped ≡ z → (going b text lines thenRun (r thenRun s)) ≡ ((going b text lines thenRun r) thenRun s)
+    go : (z : Bool) → r.stopped ≡ z → (going b text lines then_run (r then_run s)) ≡ ((going b text lines then_run r) then_run s)
     go true e = rw e
     go false e = rw (e, append_assoc text r.text s.text, add_assoc lines r.lines s.lines)
 
@@ -80,14 +80,14 @@ module _ (n : ℕ) (s t : List ℕ) (e : length s ≡ 43 * suc n) where
 
 -- THEOREM: a text that is run in parts, the second from the board that the first leaves, is run as one
 pub run_parts : (n m : ℕ) (b : Board) (s t : List ℕ) → length s ≡ 43 * n
-    → run_of (n + m) b (s ++ t) ≡ (run_of n b s thenRun run_of m (run_of n b s).board t)
+    → run_of (n + m) b (s ++ t) ≡ (run_of n b s then_run run_of m (run_of n b s).board t)
 run_parts zero m b [] t e = rw (zero-add m, run_none b [], zero-add (run_of m b t).lines)
 run_parts zero m b (x ∷ s) t e = absurd (omega arith)
 run_parts (suc n) m b s t e = go (line_in (take 43 s)) refl (λ (b : Board). run_parts n m b (drop 43 s) t (other_length n s t e))
   where
     go : (l : Line) → line_in (take 43 s) ≡ l
-        → ((b : Board) → run_of (n + m) b (drop 43 s ++ t) ≡ (run_of n b (drop 43 s) thenRun run_of m (run_of n b (drop 43 s)).board t))
-        → run_of (suc n + m) b (s ++ t) ≡ (run_of (suc n) b s thenRun run_of m (run_of (suc n) b s).board t)
+        → ((b : Board) → run_of (n + m) b (drop 43 s ++ t) ≡ (run_of n b (drop 43 s) then_run run_of m (run_of n b (drop 43 s)).board t))
+        → run_of (suc n + m) b (s ++ t) ≡ (run_of (suc n) b s then_run run_of m (run_of (suc n) b s).board t)
     go (Call c) l ih =
         let b₁ = after b c 55 in
         let first = run_of n b₁ (drop 43 s) in

@@ -15,7 +15,7 @@ use Rattle.rules.specs.Step.{Kept, after}
 use Rattle.lines.specs.declared.Line.{Line}
 use Rattle.lines.specs.declared.Line.TheVariants.{Call, Malformed}
 use Rattle.lines.specs.Line.{line_in}
-use Rattle.calls.specs.Run.{run_of, ◌thenRun◌, RunPost}
+use Rattle.calls.specs.Run.{run_of, ◌then_run◌, RunPost}
 use Rattle.lines.proofs.Texts.{call_length}
 use Rattle.calls.proofs.Parts.{going, stopped_at, line_on, run_none, run_malformed, run_call}
 
@@ -41,7 +41,7 @@ module _ (n : ℕ) (b₀ : Board) (text out₀ : List ℕ) where
     pub within : 43 * k ≤ length text
     pub long : length out ≡ length out₀
     pub stays : drop (55 * k) out ≡ drop (55 * k) out₀
-    pub run : run_of n b₀ text ≡ (going b (take (55 * k) out) k thenRun run_of (n - k) b (drop (43 * k) text))
+    pub run : run_of n b₀ text ≡ (going b (take (55 * k) out) k then_run run_of (n - k) b (drop (43 * k) text))
 
   pub so_far_none : SoFar 0 b₀ out₀
   so_far_none = record {

@@ -37,9 +37,9 @@ unfoldable pub run_of : ℕ → Board → List ℕ → Run
 run_of n b text = run_over n b (calls_in n text)
 
 -- a run, and after it, unless it stopped, another
-infixl 20 ◌thenRun◌
-abbrev pub ◌thenRun◌ : Run → Run → Run
-r thenRun s = cond r.stopped r (record {
+infixl 20 ◌then_run◌
+abbrev pub ◌then_run◌ : Run → Run → Run
+r then_run s = cond r.stopped r (record {
   board = s.board;
   text = r.text ++ s.text;
   lines = r.lines + s.lines;

@@ -15,7 +15,7 @@ use Rattle.rules.specs.declared.Call.TheVariants.{NoSuchCall, BadField, Request,
 use Rattle.rules.specs.Board.{Board}
 use Rattle.rules.specs.Call.{Entry, between, is_new_paper, is_day, is_time, in_range, calls, no_entry, entry_of, is_call, named, in_form, in_ranges}
 use Rattle.rules.specs.Refusals.{◌when◌, own, conditions, answer}
-use Rattle.rules.proofs.Answers.{NoneHolds, conditionAt, at_none, accepted-none}
+use Rattle.rules.proofs.Answers.{NoneHolds, condition_at, at_none, accepted_none}
 
 -- what the number and the ranges say: it is a call, its portions are in order and on the board, its gate is one of the board's, its day and time
 -- are those of a clock, its papers have numbers
@@ -32,7 +32,7 @@ Ranges b (Clear n officer) = Unit {0}
 Ranges b (Reoccupy n officer) = Unit {0}
 Ranges b (HandOver n out into) = Unit {0}
 Ranges b (Fulfil n officer assurances) = Unit {0}
-Ranges b (Continue old new officerOld officerNew) = Unit {0}
+Ranges b (Continue old new officer_old officer_new) = Unit {0}
 Ranges b (Move t g n officer) = g.0 < length b.gates
 Ranges b (Passed t) = Unit {0}
 Ranges b (Term n day time length) = (is_day day ≡ true) × (is_time time ≡ true)
@@ -43,7 +43,7 @@ Ranges b (BookIn g paper certified new) = (g.0 < length b.gates) × (1 ≤ paper
 pub record Accepted (b : Board) (s : Seven) (c : Call) : Type 0 where
   pub ranges : Ranges b c
   -- for a GRANT, `ok 12` says that no train touches the limits
-  pub ok : (n : ℕ) → conditionAt n (own b s c) ≡ false
+  pub ok : (n : ℕ) → condition_at n (own b s c) ≡ false
 
 -- the ranges of an entry's fields give those of the call that it names
 abbrev EntryRanges : Board → Seven → Entry → Type 0
@@ -69,7 +69,7 @@ in_ranges_lem b s c h = entry_ranges b s s.call c (search (told, h))
 pub accepted : (b : Board) (s : Seven) (room : ℕ) → answer b s room ≡ 0 → Accepted b s (named s)
 unfolding conditions
 accepted b s room e =
-    let none : NoneHolds (conditions b s room) = accepted-none b s room e in
+    let none : NoneHolds (conditions b s room) = accepted_none b s room e in
     let P = b.portions in
     let G = length b.gates in
     let numbered : not (is_call s.call) ≡ false = none (2 when not (is_call s.call)) (Memᴰ.tail (Memᴰ.head refl)) in

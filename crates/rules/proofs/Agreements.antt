@@ -78,9 +78,9 @@ module _ (b : Board) (o : Once b) (s : Seven) (room n : ℕ) (l : live b n ≡ t
   fulfil_keeps m officer assurances e other = call_keeps (ap (ends n) e ∙ ne_eqb n m.0 other) (ap (agrees n) e)
 
   -- of the new one too: after CONTINUE it has its own, and not old's
-  pub continue_keeps : (old new : AuthorityNo) (officerOld officerNew : ℕ) → named s ≡ Continue old new officerOld officerNew → (n ≡ old.0 → ⊥) → KeepsNumber
+  pub continue_keeps : (old new : AuthorityNo) (officer_old officer_new : ℕ) → named s ≡ Continue old new officer_old officer_new → (n ≡ old.0 → ⊥) → KeepsNumber
   unfolding ends agrees
-  continue_keeps old new officerOld officerNew e other = call_keeps (ap (ends n) e ∙ ne_eqb n old.0 other) (ap (agrees n) e)
+  continue_keeps old new officer_old officer_new e other = call_keeps (ap (ends n) e ∙ ne_eqb n old.0 other) (ap (agrees n) e)
 
 -- ---- after every list of calls
 

@@ -46,7 +46,7 @@ own-ascends b s (Clear n officer) = refl
 own-ascends b s (Reoccupy n officer) = refl
 own-ascends b s (HandOver n out into) = refl
 own-ascends b s (Fulfil n officer assurances) = refl
-own-ascends b s (Continue old new officerOld officerNew) = refl
+own-ascends b s (Continue old new officer_old officer_new) = refl
 own-ascends b s (Move t g n officer) = refl
 own-ascends b s (Passed t) = refl
 own-ascends b s (Term n day time length) = refl
@@ -101,24 +101,24 @@ lowest_step k q rs h later ih false e = more ih
         some p (record { refusal = w.refusal; member = Memᴰ.tail w.member; number = w.number; holds = w.holds })
         (λ r m l. ⊎_elim (λ i. ap (λ (x : Refusal). x.holds) i ∙ e) (λ t. f r t l) (Memᴰ.cases_cons m))
 
-lowest-is : (k : ℕ) (rs : List Refusal) → ascends k rs ≡ true → Lowest rs (lowest rs)
+lowest_is : (k : ℕ) (rs : List Refusal) → ascends k rs ≡ true → Lowest rs (lowest rs)
 unfolding ascends lowest
-lowest-is k [] h = none (λ r m. elim m [ ])
-lowest-is k (q ∷ rs) h =
+lowest_is k [] h = none (λ r m. elim m [ ])
+lowest_is k (q ∷ rs) h =
     let rest = and_r (ltb k q.number) (ascends q.number rs) h in
     lowest_step k q rs (ltb-true k q.number (and_l (ltb k q.number) (ascends q.number rs) h)) (above q.number rs rest)
-    (lowest-is q.number rs rest) q.holds refl
+    (lowest_is q.number rs rest) q.holds refl
 
 -- THEOREM, demand 2 in one: the answer is 0 and no condition holds, or it is the number of the lowest condition that holds
-pub answer-lowest : (b : Board) (s : Seven) (room : ℕ) → Lowest (conditions b s room) (answer b s room)
+pub answer_lowest : (b : Board) (s : Seven) (room : ℕ) → Lowest (conditions b s room) (answer b s room)
 unfolding answer
-answer-lowest b s room = lowest-is 0 (conditions b s room) (ascending b s room)
+answer_lowest b s room = lowest_is 0 (conditions b s room) (ascending b s room)
 
 -- ---- the same, as the two equivalences
 
-none-holds : {rs : List Refusal} {n : ℕ} → Lowest rs n → n ≡ 0 → NoneHolds rs
-none-holds (none f) e = f
-none-holds (some p w f) e = absurd (omega arith)
+none_holds : {rs : List Refusal} {n : ℕ} → Lowest rs n → n ≡ 0 → NoneHolds rs
+none_holds (none f) e = f
+none_holds (some p w f) e = absurd (omega arith)
 
 is_zero : {rs : List Refusal} {n : ℕ} → Lowest rs n → NoneHolds rs → n ≡ 0
 is_zero (none f) h = refl
@@ -128,72 +128,72 @@ pub record Refused (n : ℕ) (rs : List Refusal) : Type 0 where
   pub holds : Holds n rs
   pub lower : NoneBelow n rs
 
-refused-by : {rs : List Refusal} {m n : ℕ} → Lowest rs m → m ≡ n → 0 < n → Refused n rs
-refused-by (none f) e p = absurd (omega arith)
-refused-by {rs} (some q w f) e p = rw (← e) (record { holds = w; lower = f })
+refused_by : {rs : List Refusal} {m n : ℕ} → Lowest rs m → m ≡ n → 0 < n → Refused n rs
+refused_by (none f) e p = absurd (omega arith)
+refused_by {rs} (some q w f) e p = rw (← e) (record { holds = w; lower = f })
 
-is-refused : {rs : List Refusal} {m n : ℕ} → Lowest rs m → Refused n rs → m ≡ n
-is-refused (none f) r = absurd (false≢true (sym (f r.holds.refusal r.holds.member) ∙ r.holds.holds))
-is-refused {m = m} {n = n} (some q w f) r =
+is_refused : {rs : List Refusal} {m n : ℕ} → Lowest rs m → Refused n rs → m ≡ n
+is_refused (none f) r = absurd (false≢true (sym (f r.holds.refusal r.holds.member) ∙ r.holds.holds))
+is_refused {m = m} {n = n} (some q w f) r =
     let not-less : m < n → ⊥ = λ l. false≢true (sym (r.lower w.refusal w.member (omega (arith, w.number))) ∙ w.holds) in
     let not_more : n < m → ⊥ = λ l. false≢true (sym (f r.holds.refusal r.holds.member (omega (arith, r.holds.number))) ∙ r.holds.holds) in
     omega arith
 
 -- THEOREM: accepted if and only if every condition is false
-pub accepted-none : (b : Board) (s : Seven) (room : ℕ) → answer b s room ≡ 0 → NoneHolds (conditions b s room)
-accepted-none b s room e = none-holds (answer-lowest b s room) e
+pub accepted_none : (b : Board) (s : Seven) (room : ℕ) → answer b s room ≡ 0 → NoneHolds (conditions b s room)
+accepted_none b s room e = none_holds (answer_lowest b s room) e
 
-pub none-accepted : (b : Board) (s : Seven) (room : ℕ) → NoneHolds (conditions b s room) → answer b s room ≡ 0
-none-accepted b s room h = is_zero (answer-lowest b s room) h
+pub none_accepted : (b : Board) (s : Seven) (room : ℕ) → NoneHolds (conditions b s room) → answer b s room ≡ 0
+none_accepted b s room h = is_zero (answer_lowest b s room) h
 
 -- THEOREM: refused with n if and only if condition n holds and none lower does
-pub refused-lowest : (b : Board) (s : Seven) (room n : ℕ) → answer b s room ≡ n → 0 < n → Refused n (conditions b s room)
-refused-lowest b s room n e p = refused-by (answer-lowest b s room) e p
+pub refused_lowest : (b : Board) (s : Seven) (room n : ℕ) → answer b s room ≡ n → 0 < n → Refused n (conditions b s room)
+refused_lowest b s room n e p = refused_by (answer_lowest b s room) e p
 
-pub lowest-refused : (b : Board) (s : Seven) (room n : ℕ) → Refused n (conditions b s room) → answer b s room ≡ n
-lowest-refused b s room n r = is-refused (answer-lowest b s room) r
+pub lowest_refused : (b : Board) (s : Seven) (room n : ℕ) → Refused n (conditions b s room) → answer b s room ≡ n
+lowest_refused b s room n r = is_refused (answer_lowest b s room) r
 
 -- ---- what a refused call leaves (demand 1)
 
 -- THEOREM: a refused call returns the same board and allots no number
-pub refused-same : (b : Board) (s : Seven) (room : ℕ) → (answer b s room ≡ 0 → ⊥) → after b s room ≡ b
+pub refused_same : (b : Board) (s : Seven) (room : ℕ) → (answer b s room ≡ 0 → ⊥) → after b s room ≡ b
 unfolding after
-refused-same b s room h = rw (ne_eqb (answer b s room) 0 h)
+refused_same b s room h = rw (ne_eqb (answer b s room) 0 h)
 
 pub refused_none : (b : Board) (s : Seven) (room : ℕ) → (answer b s room ≡ 0 → ⊥) → allotted b s room ≡ 0
 unfolding allotted
 refused_none b s room h = rw (ne_eqb (answer b s room) 0 h)
 
 -- THEOREM: a buffer under 55 bytes gives 1 and stays as it was; a longer one gets the line, and its later bytes stay
-pub short-answer : (b : Board) (s : Seven) (room : ℕ) → room < 55 → answer b s room ≡ 1
+pub short_answer : (b : Board) (s : Seven) (room : ℕ) → room < 55 → answer b s room ≡ 1
 unfolding answer conditions lowest
-short-answer b s room h = rw (lt-ltb room 55 h)
+short_answer b s room h = rw (lt-ltb room 55 h)
 
-pub short-line : (s : Seven) (a n : ℕ) (buffer : List ℕ) → length buffer < 55 → line_after s a n buffer ≡ buffer
+pub short_line : (s : Seven) (a n : ℕ) (buffer : List ℕ) → length buffer < 55 → line_after s a n buffer ≡ buffer
 unfolding line_after
-short-line s a n buffer h = rw (lt-ltb (length buffer) 55 h)
+short_line s a n buffer h = rw (lt-ltb (length buffer) 55 h)
 
-pub long-line : (s : Seven) (a n : ℕ) (buffer : List ℕ) → 55 ≤ length buffer → line_after s a n buffer ≡ journal_line s a n ++ drop 55 buffer
+pub long_line : (s : Seven) (a n : ℕ) (buffer : List ℕ) → 55 ≤ length buffer → line_after s a n buffer ≡ journal_line s a n ++ drop 55 buffer
 unfolding line_after
-long-line s a n buffer h = rw (le-ltb (length buffer) 55 h)
+long_line s a n buffer h = rw (le-ltb (length buffer) 55 h)
 
 -- ---- one condition, by its number
 
 -- the condition with the number n, false where the list has none
-unfoldable pub conditionAt : ℕ → List Refusal → Bool
-conditionAt n [] = false
-conditionAt n (r ∷ rs) = cond (eqb r.number n) r.holds (conditionAt n rs)
+unfoldable pub condition_at : ℕ → List Refusal → Bool
+condition_at n [] = false
+condition_at n (r ∷ rs) = cond (eqb r.number n) r.holds (condition_at n rs)
 
-at-step : (n : ℕ) (r : Refusal) (rs : List Refusal) → r.holds ≡ false → conditionAt n rs ≡ false → (t : Bool)
-    → cond t r.holds (conditionAt n rs) ≡ false
-at-step n r rs e ih true = e
-at-step n r rs e ih false = ih
+at_step : (n : ℕ) (r : Refusal) (rs : List Refusal) → r.holds ≡ false → condition_at n rs ≡ false → (t : Bool)
+    → cond t r.holds (condition_at n rs) ≡ false
+at_step n r rs e ih true = e
+at_step n r rs e ih false = ih
 
 -- where none holds, it does not
-pub at_none : (n : ℕ) (rs : List Refusal) → NoneHolds rs → conditionAt n rs ≡ false
-unfolding conditionAt
+pub at_none : (n : ℕ) (rs : List Refusal) → NoneHolds rs → condition_at n rs ≡ false
+unfolding condition_at
 at_none n [] h = refl
-at_none n (r ∷ rs) h = at-step n r rs (h r (Memᴰ.head refl)) (at_none n rs (λ q m. h q (Memᴰ.tail m))) (eqb r.number n)
+at_none n (r ∷ rs) h = at_step n r rs (h r (Memᴰ.head refl)) (at_none n rs (λ q m. h q (Memᴰ.tail m))) (eqb r.number n)
 
 -- ---- no answer is above the greatest refusal
 
@@ -202,20 +202,20 @@ cond_most true x y most h k = h
 cond_most false x y most h k = k
 
 -- what the numbers are above is itself at most the greatest
-below-greatest : (n : ℕ) (rs : List Refusal) → ascends n rs ≡ true → n ≤ greatest
+below_greatest : (n : ℕ) (rs : List Refusal) → ascends n rs ≡ true → n ≤ greatest
 unfolding ascends
-below-greatest n [] h = leb-true n greatest h
-below-greatest n (r ∷ rs) h =
+below_greatest n [] h = leb-true n greatest h
+below_greatest n (r ∷ rs) h =
     let more = ltb-true n r.number (and_l (ltb n r.number) (ascends r.number rs) h) in
-    omega (arith, below-greatest r.number rs (and_r (ltb n r.number) (ascends r.number rs) h))
+    omega (arith, below_greatest r.number rs (and_r (ltb n r.number) (ascends r.number rs) h))
 
-lowest-most : (n : ℕ) (rs : List Refusal) → ascends n rs ≡ true → lowest rs ≤ greatest
+lowest_most : (n : ℕ) (rs : List Refusal) → ascends n rs ≡ true → lowest rs ≤ greatest
 unfolding ascends lowest
-lowest-most n [] h = omega arith
-lowest-most n (r ∷ rs) h =
+lowest_most n [] h = omega arith
+lowest_most n (r ∷ rs) h =
     let rest = and_r (ltb n r.number) (ascends r.number rs) h in
-    cond_most r.holds r.number (lowest rs) greatest (below-greatest r.number rs rest) (lowest-most r.number rs rest)
+    cond_most r.holds r.number (lowest rs) greatest (below_greatest r.number rs rest) (lowest_most r.number rs rest)
 
-pub answer-most : (b : Board) (s : Seven) (room : ℕ) → answer b s room ≤ greatest
+pub answer_most : (b : Board) (s : Seven) (room : ℕ) → answer b s room ≤ greatest
 unfolding answer
-answer-most b s room = lowest-most 0 (conditions b s room) (ascending b s room)
+answer_most b s room = lowest_most 0 (conditions b s room) (ascending b s room)

@@ -31,7 +31,7 @@ use Rattle.rules.specs.Plan.{open_board}
 use Rattle.rules.specs.Step.{Made, after, trace, final}
 use Rattle.rules.specs.Reckoning.{Reckoned, start, reckoned}
 use Rattle.rules.specs.Claim.{In, Forced}
-use Rattle.rules.proofs.Answers.{conditionAt}
+use Rattle.rules.proofs.Answers.{condition_at}
 use Rattle.rules.proofs.Accepted.{Accepted, accepted}
 use Rattle.rules.proofs.Opening.{fresh}
 use Rattle.rules.proofs.Safety.{demand_3, list_follows}
@@ -120,7 +120,7 @@ is_out_lem b g paper h e =
     some_paper (booking_at b.bookings g).paper.0 (omega arith)
 
 booked_effect : (b : Board) → Booked b → (s : Seven) (c : Call) → Accepted b s c → Booked (effect b c)
-unfolding effect own conditionAt restores_blocked
+unfolding effect own condition_at restores_blocked
 booked_effect b B s NoSuchCall k = B
 booked_effect b B s BadField k = B
 booked_effect b B s (Request kind first last officer) k = booked_still b _ refl refl refl B
@@ -133,7 +133,7 @@ booked_effect b B s (Clear n officer) k = booked_still b _ refl refl refl B
 booked_effect b B s (Reoccupy n officer) k = booked_still b _ refl refl refl B
 booked_effect b B s (HandOver n out into) k = booked_still b _ refl refl refl B
 booked_effect b B s (Fulfil n officer assurances) k = booked_still b _ refl refl refl B
-booked_effect b B s (Continue old new officerOld officerNew) k = booked_still b _ refl refl refl B
+booked_effect b B s (Continue old new officer_old officer_new) k = booked_still b _ refl refl refl B
 booked_effect b B s (Move t g n officer) k = booked_still b _ refl refl refl B
 booked_effect b B s (Passed t) k = booked_still b _ refl refl refl B
 booked_effect b B s (Term n day time length) k = booked_still b _ refl refl refl B
@@ -212,7 +212,7 @@ module _ (text : List ℕ) (ms : List Made) where
   -- THEOREM, order 6: a needed gate that is blocked can't be restored: after any list of calls no BOOK IN that would restore it is accepted
   pub needed_not_restored : (n : ℕ) (g : GateNo) → NeededBy gates A n g.0 → (s : Seven) (room : ℕ) (paper new : PaperNo)
       → named s ≡ BookIn g paper true new → answer b s room ≡ 0 → ⊥
-  unfolding own conditionAt restores_blocked
+  unfolding own condition_at restores_blocked
   needed_not_restored n g h s room paper new is e =
       let k : Accepted b s (BookIn g paper true new) = subst (Accepted b s) is (accepted b s room e) in
       clash (limits_protected n g.0 h).0 (k.ok 25)

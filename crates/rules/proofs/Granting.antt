@@ -27,7 +27,7 @@ use Rattle.rules.specs.Effects.{granted, with_site, with_authority, is_with, con
 use Rattle.rules.specs.Reckoning as Reckoning
 use Rattle.rules.specs.Reckoning.{Reckoned, Position, put, as_forced, as_ended, as_sited, as_continued, reckon}
 use Rattle.rules.specs.Claim.{In, Forced, Agreed, Safe}
-use Rattle.rules.proofs.Answers.{conditionAt}
+use Rattle.rules.proofs.Answers.{condition_at}
 use Rattle.rules.proofs.Accepted.{Accepted}
 use Rattle.rules.proofs.Follows.{put_other, put_all, Held, Placed, giver, Follows, authority_there, there_ended, follows_amended, follows_ended, follows_trains}
 use Rattle.rules.proofs.Claims.{New, safe_put, safe_quieter}
@@ -106,7 +106,7 @@ module _ (b : Board) (r : Reckoning.Reckoning) (F : Follows b r) (S : Safe b.gat
   -- ---- GRANT
 
   pub keeps_grant : (n : AuthorityNo) (officer : ℕ) → Accepted b s (Grant n officer) → Keeps b r (Grant n officer)
-  unfolding effect reckon own conditionAt
+  unfolding effect reckon own condition_at
   keeps_grant n officer ok = record {
     follows =
         follows_amended b r F n.0 granted x (suc r.grants) (λ a. refl) refl (held_granted (suc r.grants) (r.authority n.0))
@@ -136,7 +136,7 @@ module _ (b : Board) (r : Reckoning.Reckoning) (F : Follows b r) (S : Safe b.gat
   -- ---- REOCCUPY
 
   pub keeps_reoccupy : (n : AuthorityNo) (officer : ℕ) → Accepted b s (Reoccupy n officer) → Keeps b r (Reoccupy n officer)
-  unfolding effect reckon own conditionAt
+  unfolding effect reckon own condition_at
   keeps_reoccupy n officer ok = record {
     follows =
         follows_amended b r F n.0 (with_site true) (as_sited true (r.authority n.0)) r.grants (λ a. refl) refl
@@ -242,10 +242,10 @@ module _ (b : Board) (r : Reckoning.Reckoning) (F : Follows b r) (old : ℕ) (ne
   }
 
 module _ (b : Board) (r : Reckoning.Reckoning) (F : Follows b r) (S : Safe b.gates r) (s : Seven) where
-  pub keeps_continue : (old new : AuthorityNo) (officerOld officerNew : ℕ) → Accepted b s (Continue old new officerOld officerNew)
-      → Keeps b r (Continue old new officerOld officerNew)
-  unfolding effect reckon own conditionAt
-  keeps_continue old new officerOld officerNew ok = record {
+  pub keeps_continue : (old new : AuthorityNo) (officer_old officer_new : ℕ) → Accepted b s (Continue old new officer_old officer_new)
+      → Keeps b r (Continue old new officer_old officer_new)
+  unfolding effect reckon own condition_at
+  keeps_continue old new officer_old officer_new ok = record {
     follows =
         follows_amended b1 r1 follows_old new.0 granted (as_forced (suc r.grants) (r1.authority new.0)) (suc r.grants) (λ a. refl) refl
         (held_granted (suc r.grants) (r1.authority new.0)) (λ a m e. follows_old.rests a m)

@@ -28,7 +28,7 @@ use Rattle.rules.specs.Effects.{entered, with_head, with_rear_in, effect}
 use Rattle.rules.specs.Reckoning as Reckoning
 use Rattle.rules.specs.Reckoning.{Reckoned, Position, put, as_moved, as_passed, reckon}
 use Rattle.rules.specs.Claim.{In, Forced, Agreed, Safe}
-use Rattle.rules.proofs.Answers.{conditionAt}
+use Rattle.rules.proofs.Answers.{condition_at}
 use Rattle.rules.proofs.Accepted.{Accepted}
 use Rattle.rules.proofs.Follows.{put_same, put_other, put_all, Placed, AllPlaced, Follows, train_there, gone_member, runs_gone, placed_moved, follows_trains}
 use Rattle.rules.proofs.Claims.{Smaller, quiet_same, small_same, safe_less}
@@ -130,7 +130,7 @@ module _ (b : Board) (r : Reckoning.Reckoning) (F : Follows b r) (S : Safe b.gat
     -- ---- MOVE
 
     pub keeps_move : (t : TrainNo) (g : GateNo) (n : AuthorityNo) (officer : ℕ) → Accepted b s (Move t g n officer) → Keeps b r (Move t g n officer)
-    unfolding effect reckon own conditionAt not_there on_board not_piloted
+    unfolding effect reckon own condition_at not_there on_board not_piloted
     keeps_move t g n officer ok = record {
       follows =
           follows_trains b r F (cond (is_outside gate.from) (insert_by train_no fresh b.trains) (moved t.0 f b.trains)) (put t.0 y r.train)
@@ -221,7 +221,7 @@ module _ (b : Board) (r : Reckoning.Reckoning) (F : Follows b r) (S : Safe b.gat
     -- ---- PASSED
 
     pub keeps_passed : (t : TrainNo) → Accepted b s (Passed t) → Keeps b r (Passed t)
-    unfolding effect reckon own conditionAt
+    unfolding effect reckon own condition_at
     keeps_passed t ok = record {
       follows =
           follows_trains b r F (cond (is_outside (train b t.0).head) (gone t.0 b.trains) (moved t.0 with_rear_in b.trains)) (put t.0 y r.train)

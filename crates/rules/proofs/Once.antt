@@ -31,7 +31,7 @@ use Rattle.rules.specs.Refusals.{own, full, no_room, not_there, answer}
 use Rattle.rules.specs.Plan.{open_board}
 use Rattle.rules.specs.Effects.{requested, granted, with_site, with_officer, with_agreed, with_term, entered, with_head, with_rear_in, is_with, continued_with, effect}
 use Rattle.rules.specs.Step.{Once, after, Made, final}
-use Rattle.rules.proofs.Answers.{conditionAt}
+use Rattle.rules.proofs.Answers.{condition_at}
 use Rattle.rules.proofs.Accepted.{Accepted, accepted}
 use Rattle.rules.proofs.Opening.{fresh}
 
@@ -133,7 +133,7 @@ once_beside : (b : Board) (o : Once b) (blocks : ℕ) (bookings : List Booking) 
 once_beside b o blocks bookings = record { authorities = o.authorities; trains = o.trains; live = o.live; running = o.running; last = o.last; allotted = o.allotted }
 
 once_effect : (b : Board) (o : Once b) (s : Seven) (c : Call) → Accepted b s c → Once (effect b c)
-unfolding effect own conditionAt
+unfolding effect own condition_at
 once_effect b o s NoSuchCall k = o
 once_effect b o s BadField k = o
 once_effect b o s (Request kind first last officer) k = once_request b o (requested (suc b.last) kind (run first last) officer) (k.ok 9) refl
@@ -147,7 +147,7 @@ once_effect b o s (Reoccupy n officer) k = once_change b o (is_authority n.0) (w
 once_effect b o s (HandOver n out into) k = once_change b o (is_authority n.0) (with_officer into) (λ a. refl)
 once_effect b o s (Fulfil n officer assurances) k =
     once_change-trains (with_authorities (ended n.0 b.authorities) b) (once_keep b o (is_not_authority n.0)) (is_with n.0) _ (λ t. refl)
-once_effect b o s (Continue old new officerOld officerNew) k =
+once_effect b o s (Continue old new officer_old officer_new) k =
     let b1 : Board = with_authorities (ended old.0 b.authorities) b in
     let b2 : Board = with_authorities (amended new.0 granted (ended old.0 b.authorities)) b in
     once_change-trains b2 (once_change b1 (once_keep b o (is_not_authority old.0)) (is_authority new.0) granted (λ a. refl)) (is_with old.0)

@@ -18,7 +18,7 @@ use Rattle.rules.specs.Call.{named}
 use Rattle.rules.specs.Refusals.{not_live, own, answer}
 use Rattle.rules.specs.Plan.{plan_number, is_head, is_plan, gates_on, open_board, open_answer}
 use Rattle.rules.specs.Step.{Made, final}
-use Rattle.rules.proofs.Answers.{conditionAt, refused-same}
+use Rattle.rules.proofs.Answers.{condition_at, refused_same}
 use Rattle.rules.proofs.Accepted.{Accepted, accepted}
 
 -- ---- a freshly opened board
@@ -61,7 +61,7 @@ refused_plan text e = (rw e, rw e)
 
 -- no call's conditions are all false on it: a field that names a portion or a gate is out of range, no authority is live, no train is on it
 closed_refuses : (s : Seven) (c : Call) → Accepted closed s c → ⊥
-unfolding closed opened own conditionAt not_live live on_board any
+unfolding closed opened own condition_at not_live live on_board any
 closed_refuses s NoSuchCall k = k.ranges
 closed_refuses s BadField k = k.ranges
 closed_refuses s (Request kind first last officer) k = omega (arith, k.ranges)
@@ -74,7 +74,7 @@ closed_refuses s (Clear n officer) k = false≢true (sym (k.ok 5))
 closed_refuses s (Reoccupy n officer) k = false≢true (sym (k.ok 5))
 closed_refuses s (HandOver n out into) k = false≢true (sym (k.ok 5))
 closed_refuses s (Fulfil n officer assurances) k = false≢true (sym (k.ok 5))
-closed_refuses s (Continue old new officerOld officerNew) k = false≢true (sym (k.ok 5))
+closed_refuses s (Continue old new officer_old officer_new) k = false≢true (sym (k.ok 5))
 closed_refuses s (Move t g n officer) k = omega (arith, k.ranges)
 closed_refuses s (Passed t) k = false≢true (sym (k.ok 17))
 closed_refuses s (Term n day time length) k = false≢true (sym (k.ok 5))
@@ -90,4 +90,4 @@ pub closed_stays : (ms : List Made) → final closed ms ≡ closed
 unfolding final
 closed_stays [] = refl
 closed_stays (m ∷ ms) =
-    rw (refused-same closed m.seven m.room (closed_accepts_none m.seven m.room)) (closed_stays ms)
+    rw (refused_same closed m.seven m.room (closed_accepts_none m.seven m.room)) (closed_stays ms)

@@ -33,7 +33,7 @@ use Rattle.rules.specs.Call.{authority_of, minute_of}
 use Rattle.rules.specs.Reckoning as Reckoning
 use Rattle.rules.specs.Reckoning.{Reckoned, agreement, put, as_requested, as_ended, as_sited, as_agreed, as_joined, reckon}
 use Rattle.rules.specs.Claim.{In, Forced, Safe}
-use Rattle.rules.proofs.Answers.{conditionAt}
+use Rattle.rules.proofs.Answers.{condition_at}
 use Rattle.rules.proofs.Accepted.{Accepted}
 use Rattle.rules.proofs.Follows.{put_same, put_other, put_all, Held, Placed, giver, Rests, Follows, reckoned_as, authority_there, ended_member, there_ended, follows_amended, follows_unreckoned, follows_ended, follows_trains, follows_beside}
 use Rattle.rules.proofs.Claims.{quiet_same, small_same, safe_less, safe_quieter}
@@ -212,7 +212,7 @@ module _ (b : Board) (r : Reckoning.Reckoning) (F : Follows b r) (S : Safe b.gat
   -- ---- WITHDRAW, HAND OVER, TERM, BOOK OUT and BOOK IN: nothing is reckoned
 
   pub keeps_withdraw : (n : AuthorityNo) (officer : ℕ) → Accepted b s (Withdraw n officer) → Keeps b r (Withdraw n officer)
-  unfolding effect reckon own conditionAt
+  unfolding effect reckon own condition_at
   keeps_withdraw n officer ok = record {
     follows =
         record {
@@ -293,7 +293,7 @@ module _ (b : Board) (r : Reckoning.Reckoning) (F : Follows b r) (S : Safe b.gat
     safe_recorded fo = safe_quieter b.gates r S r.requests taker.0 x (λ f. absurd (pending b r F taker.0 live-taker waits (sym fo ∙ f)))
 
   pub keeps_agree : (toa twa : AuthorityNo) (officer : ℕ) → Accepted b s (Agree toa twa officer) → Keeps b r (Agree toa twa officer)
-  unfolding effect reckon own conditionAt not_to_agree
+  unfolding effect reckon own condition_at not_to_agree
   keeps_agree toa twa officer ok =
       let x : Reckoned = as_agreed toa.0 (r.authority twa.0) in
       let l1 : live b toa.0 ≡ true = is_live b r F toa.0 (search (told, ok.ok 5)) in
@@ -310,7 +310,7 @@ module _ (b : Board) (r : Reckoning.Reckoning) (F : Follows b r) (S : Safe b.gat
       }
 
   pub keeps_join : (twa toa : AuthorityNo) (officer distance : ℕ) → Accepted b s (Join twa toa officer distance) → Keeps b r (Join twa toa officer distance)
-  unfolding effect reckon own conditionAt not_to_join
+  unfolding effect reckon own condition_at not_to_join
   keeps_join twa toa officer distance ok =
       let x : Reckoned = as_joined twa.0 (r.authority toa.0) in
       let l1 : live b twa.0 ≡ true = is_live b r F twa.0 (search (told, ok.ok 5)) in
@@ -329,7 +329,7 @@ module _ (b : Board) (r : Reckoning.Reckoning) (F : Follows b r) (S : Safe b.gat
   -- ---- CLEAR and FULFIL
 
   pub keeps_clear : (n : AuthorityNo) (officer : ℕ) → Accepted b s (Clear n officer) → Keeps b r (Clear n officer)
-  unfolding effect reckon own conditionAt
+  unfolding effect reckon own condition_at
   keeps_clear n officer ok = record {
     follows =
         follows_amended b r F n.0 (with_site false) (as_sited false (r.authority n.0)) r.grants (λ a. refl) refl
@@ -387,7 +387,7 @@ module _ (b : Board) (r : Reckoning.Reckoning) (F : Follows b r) (S : Safe b.gat
       more = put_all (λ (h : ℕ) (y : Bool). r.blocked h ≡ true → y ≡ true) g.0 true r.blocked (λ e. refl) (λ h ne e. e)
 
   pub keeps_unblock : (g : GateNo) → Accepted b s (Unblock g) → Keeps b r (Unblock g)
-  unfolding effect reckon own conditionAt still_needed in_force_needs needs
+  unfolding effect reckon own condition_at still_needed in_force_needs needs
   keeps_unblock g ok = record {
     follows =
         record {

@@ -21,7 +21,7 @@ use Rattle.rules.specs.Call.{minute_of, named}
 use Rattle.rules.specs.Refusals.{not_live, not_to_agree, not_to_join, own, answer}
 use Rattle.rules.specs.Effects.{granted, with_site, with_officer, with_agreed, with_term, effect}
 use Rattle.rules.specs.Step.{Made, Answered, after, trace, final, Once}
-use Rattle.rules.proofs.Answers.{conditionAt}
+use Rattle.rules.proofs.Answers.{condition_at}
 use Rattle.rules.proofs.Accepted.{Accepted, accepted}
 use Rattle.rules.proofs.Follows.{authority_there}
 use Rattle.rules.proofs.Once.{once_after, held_once}
@@ -40,7 +40,7 @@ ends n (Clear m officer) = false
 ends n (Reoccupy m officer) = false
 ends n (HandOver m out into) = false
 ends n (Fulfil m officer assurances) = eqb n m.0
-ends n (Continue old new officerOld officerNew) = eqb n old.0
+ends n (Continue old new officer_old officer_new) = eqb n old.0
 ends n (Move t g m officer) = false
 ends n (Passed t) = false
 ends n (Term m day time length) = false
@@ -66,7 +66,7 @@ agrees n (Clear m officer) = false
 agrees n (Reoccupy m officer) = false
 agrees n (HandOver m out into) = false
 agrees n (Fulfil m officer assurances) = false
-agrees n (Continue old new officerOld officerNew) = false
+agrees n (Continue old new officer_old officer_new) = false
 agrees n (Move t g m officer) = false
 agrees n (Passed t) = false
 agrees n (Term m day time length) = false
@@ -146,7 +146,7 @@ module _ (b : Board) (o : Once b) (s : Seven) where
 
   effect_stays : (c : Call) → Accepted b s c → (x : Authority) → Member x b.authorities → ends (authority_no x) c ≡ false
       → StaysIn (agrees (authority_no x) c) x (effect b c).authorities
-  unfolding effect ends agrees own conditionAt not_live not_to_agree not_to_join
+  unfolding effect ends agrees own condition_at not_live not_to_agree not_to_join
   effect_stays NoSuchCall k x m e = (x, m, as_it_was x)
   effect_stays BadField k x m e = (x, m, as_it_was x)
   effect_stays (Request kind first last officer) k x m e = (x, Memᴰ.append_left _ m, as_it_was x)
@@ -164,7 +164,7 @@ module _ (b : Board) (o : Once b) (s : Seven) where
   effect_stays (HandOver n out into) k x m e =
       changed_stays n.0 (with_officer into) b.authorities x m (λ i. alike x (with_officer into x) refl refl refl refl refl)
   effect_stays (Fulfil n officer assurances) k x m e = (x, ended_stays n.0 b.authorities x m e, as_it_was x)
-  effect_stays (Continue old new officerOld officerNew) k x m e =
+  effect_stays (Continue old new officer_old officer_new) k x m e =
       changed_stays new.0 granted (ended old.0 b.authorities) x (ended_stays old.0 b.authorities x m e) (λ i. granted_stays x)
   effect_stays (Move t g n officer) k x m e = (x, m, as_it_was x)
   effect_stays (Passed t) k x m e = (x, m, as_it_was x)

@@ -56,7 +56,7 @@ starts_effect b s (Clear n officer) k S = days_changed (is_authority n.0) (with_
 starts_effect b s (Reoccupy n officer) k S = days_changed (is_authority n.0) (with_site true) b.authorities (λ a. refl) S
 starts_effect b s (HandOver n out into) k S = days_changed (is_authority n.0) (with_officer into) b.authorities (λ a. refl) S
 starts_effect b s (Fulfil n officer assurances) k S = λ a m. S a (kept (is_not_authority n.0) b.authorities a m).member
-starts_effect b s (Continue old new officerOld officerNew) k S =
+starts_effect b s (Continue old new officer_old officer_new) k S =
     days_changed (is_authority new.0) granted (ended old.0 b.authorities) (λ a. refl)
     (λ a m. S a (kept (is_not_authority old.0) b.authorities a m).member)
 starts_effect b s (Move t g n officer) k S = S

@@ -173,7 +173,7 @@ effect b (HandOver n out into) = with_authorities (amended n.0 (with_officer int
 effect b (Fulfil n officer assurances) =
     with_trains (freed n.0 b.trains) (with_authorities (ended n.0 b.authorities) b)
 -- CONTINUE: "Old ends, new is in force with workers on."
-effect b (Continue old new officerOld officerNew) =
+effect b (Continue old new officer_old officer_new) =
     with_trains (continued old.0 new (authority b new.0).limits b.trains)
     (with_authorities (amended new.0 granted (ended old.0 b.authorities)) b)
 -- MOVE: "Blocks stay on."; order 5: a train from outside comes to its place "by ascending number"

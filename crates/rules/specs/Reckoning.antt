@@ -208,7 +208,7 @@ reckon gates r (Grant n officer) = forced n.0 r
 reckon gates r (Clear n officer) = with_authorities (put n.0 (as_sited false (r.authority n.0)) r.authority) r
 reckon gates r (Reoccupy n officer) = with_authorities (put n.0 (as_sited true (r.authority n.0)) r.authority) r
 reckon gates r (Fulfil n officer assurances) = with_authorities (put n.0 (as_ended (r.authority n.0)) r.authority) r
-reckon gates r (Continue old new officerOld officerNew) =
+reckon gates r (Continue old new officer_old officer_new) =
     forced new.0
     (with_trains (λ t. as_continued old.0 new.0 (r.authority new.0) (r.train t))
     (with_authorities (put old.0 (as_ended (r.authority old.0)) r.authority) r))

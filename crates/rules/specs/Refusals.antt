@@ -275,10 +275,10 @@ fulfil_refusals b n officer assurances =
 
 -- CONTINUE {5; 6 old not in force or new not pending; 7 either; 11, 12, 13 for the new}; 22 for the new, order 1
 abbrev pub continue_refusals : Board → Seven → ℕ → ℕ → ℕ → ℕ → List Refusal
-continue_refusals b s old new officerOld officerNew =
+continue_refusals b s old new officer_old officer_new =
     5 when (not_live b old || not_live b new)
     ∷ 6 when (not (is_in_force (authority b old)) || is_in_force (authority b new))
-    ∷ 7 when (not_officer b old officerOld || not_officer b new officerNew)
+    ∷ 7 when (not_officer b old officer_old || not_officer b new officer_new)
     ∷ 11 when unprotected b (authority b new)
     ∷ 12 when occupied_beside b old (authority b new)
     ∷ 13 when overlaps b old (authority b new)
@@ -350,7 +350,7 @@ own b s (Clear n officer) = clear_refusals b n.0 officer
 own b s (Reoccupy n officer) = reoccupy_refusals b n.0 officer
 own b s (HandOver n out into) = hand_over_refusals b n.0 out into
 own b s (Fulfil n officer assurances) = fulfil_refusals b n.0 officer assurances
-own b s (Continue old new officerOld officerNew) = continue_refusals b s old.0 new.0 officerOld officerNew
+own b s (Continue old new officer_old officer_new) = continue_refusals b s old.0 new.0 officer_old officer_new
 own b s (Move t g n officer) = move_refusals b t.0 g.0 (gate_at b.gates g.0) n.0 officer
 own b s (Passed t) = passed_refusals b t.0
 own b s (Term n day time length) = term_refusals b s n.0 (minute_of day time)

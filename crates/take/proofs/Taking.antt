@@ -18,7 +18,7 @@ use Rattle.rules.specs.Refusals.{◌when◌, lowest, early, own, conditions, ans
 use Rattle.rules.specs.Effects.{effect}
 use Rattle.rules.specs.Step.{Kept, Once, Starts, after, allotted}
 use Rattle.rules.proofs.Accepted.{Ranges, in_ranges_lem}
-use Rattle.rules.proofs.Answers.{refused-same, refused_none}
+use Rattle.rules.proofs.Answers.{refused_same, refused_none}
 use Rattle.rules.proofs.Once.{once_after}
 use Rattle.rules.proofs.Terms.{starts_after}
 use Rattle.places.specs.declared.head.Head.{Head}
@@ -45,7 +45,7 @@ no_fault b (Clear n officer) k = refl
 no_fault b (Reoccupy n officer) k = refl
 no_fault b (HandOver n out into) k = refl
 no_fault b (Fulfil n officer assurances) k = refl
-no_fault b (Continue old new officerOld officerNew) k = refl
+no_fault b (Continue old new officer_old officer_new) k = refl
 no_fault b (Move t g n officer) k = refl
 no_fault b (Passed t) k = refl
 no_fault b (Term n day time length) k = refl
@@ -95,7 +95,7 @@ pub taken_refused : (r : Register) (s : Seven) (refusal : ℕ) → Kept r → re
 taken_refused r s refusal k e n =
     let no : with_room (board_of r) s ≡ 0 → ⊥ = λ z. n (e ∙ z) in
     record {
-      board = sym (refused-same (board_of r) s 55 no);
+      board = sym (refused_same (board_of r) s 55 no);
       answered = e;
       number = sym (refused_none (board_of r) s 55 no);
       kept = k;
