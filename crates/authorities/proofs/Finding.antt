@@ -8,7 +8,7 @@ use borrow.Author.Tests.{eq-eqb, ne_eqb}
 use Rattle.lists.specs.Prefix.{prefix}
 use Rattle.rules.specs.declared.Authority.{Authority}
 use Rattle.rules.specs.declared.Register.{Register}
-use Rattle.rules.specs.Board.{board_of, is_authority, live, authority}
+use Rattle.rules.specs.Board.{board_of, is_authority, authority}
 use Rattle.rules.specs.Refusals.{Refusal, ◌when◌, lowest, not_live}
 use Rattle.authorities.specs.declared.Found.{Found}
 use Rattle.authorities.specs.declared.Found.TheVariants.{Is, Nothing}

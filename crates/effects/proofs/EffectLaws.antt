@@ -23,9 +23,7 @@ use Rattle.rules.specs.Refusals.{Refusal, ◌when◌, lowest, full, no_room, own
 use Rattle.places.specs.declared.head.Head.{Head}
 use Rattle.places.specs.Places.{authorities_in, trains_in, register_in, board_in, HeadBounds}
 use Rattle.authorities.specs.declared.Found.{Found}
-use Rattle.authorities.specs.declared.Found.TheVariants as Found
 use Rattle.trains.specs.declared.FoundTrain.{FoundTrain}
-use Rattle.trains.specs.declared.FoundTrain.TheVariants as FoundTrain
 use Rattle.authorities.specs.Authorities.{found_in}
 use Rattle.trains.specs.Trains.{found_train}
 use Rattle.authorities.proofs.AuthorityLaws.{found_none}

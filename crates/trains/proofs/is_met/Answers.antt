@@ -1,6 +1,6 @@
 -- `trains::is_met` meets its contract: of the whole list is met what is met of the trains from i on, and of the train at i
 -- it is asked what is asked of its ends from k on. Assumes nothing.
-use Rattle.std.proofs.Common.{arith, refl, sym, ◌∙◌, false}
+use Rattle.std.proofs.Common.{arith, refl, sym, ◌∙◌}
 use Rattle.lists.proofs.Prefix.{any_hit, any_miss, any_end}
 use Rattle.rules.specs.Board.{no_train}
 use Rattle.places.proofs.Registers.{trains_length}
