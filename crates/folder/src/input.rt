@@ -1,54 +1,72 @@
 // Reading a file in large pieces.
-ghost use Rattle.io.specs.Counts.{IsPrefixLen};
+ghost use Rattle.std.specs.Prelude.{◌<◌, length, take, IsNone};
+ghost use Rattle.std.specs.Counts.{IsPrefixLen};
+ghost use Rattle.std.specs.Io.KnownBytes.{Consumes, IsAtEnd};
 
-// How many bytes were read to the front of a buffer, and whether a read failed.
+use crate::output::say_failed;
+use std::fs::File;
+use std::io::{ErrorKind, Read};
+use std::rt::Files;
+use std::{io, str};
+
+// How many bytes were read to the front of a buffer, and why a read failed, where one did.
 #[derive(Clone, Copy)]
 pub struct Filled {
     pub bytes: usize,
-    pub failed: bool,
+    pub failed: Option<io::Error>,
 }
 
-// Reads until the buffer is full, the file ends or a read fails.
-pub fn fill(fd: i32, buf: &mut [u8]) -> Filled
-    ensures { IsPrefixLen result.bytes buf.new }
+// Reads until the buffer is full, the file ends or a read fails: what was read stands at the front of the buffer.
+pub fn fill<F: Read>(file: &mut F, buf: &mut [u8]) -> Filled
+    ensures count { IsPrefixLen result.bytes buf.new }
+    ensures front { Consumes (F.remaining file.old) (F.remaining file.new) (take result.bytes buf.new) }
+    ensures end { IsNone result.failed → result.bytes < length buf.new → IsAtEnd (F.remaining file.new) }
 {
     let mut bytes: usize = 0;
     while bytes < buf.len() {
-        let got = libc::read(fd, &mut buf[bytes..]);
-        if got < 0 {
-            return Filled {
-                bytes,
-                failed: true,
-            };
+        match file.read(&mut buf[bytes..]) {
+            Ok(0) => break,
+            Ok(more) => bytes += more,
+            Err(error) => {
+                return Filled {
+                    bytes,
+                    failed: Some(error),
+                };
+            }
         }
-        let more = io::count(got, &buf[bytes..]);
-        if more == 0 {
-            break;
-        }
-        bytes += more;
     }
     Filled {
         bytes,
-        failed: false,
+        failed: None,
+    }
+}
+
+// Opens the file of that name for reading.
+pub fn open<R: Files>(rt: &R, name: &[u8]) -> io::Result<R::File> {
+    match str::from_utf8(name) {
+        Ok(path) => File::open(rt, path),
+        Err(_) => Err(io::Error::from(ErrorKind::InvalidFilename)),
     }
 }
 
 // Reads the file of that name to the front of the buffer, as much of it as there is room for. Where it cannot be opened or read, says so.
-pub fn read_file(name: &[u8], buf: &mut [u8]) -> Filled
+pub fn read_file<R: Files + Eprint>(rt: &R, name: &[u8], buf: &mut [u8]) -> Filled
     ensures { IsPrefixLen result.bytes buf.new }
 {
-    let fd = os::open_read(name);
-    if fd < 0 {
-        os::fail(name);
-        return Filled {
-            bytes: 0,
-            failed: true,
-        };
+    match open(rt, name) {
+        Ok(mut file) => {
+            let filled = fill(&mut file, buf);
+            if let Some(error) = filled.failed {
+                say_failed(rt, name, &error);
+            }
+            filled
+        }
+        Err(error) => {
+            say_failed(rt, name, &error);
+            Filled {
+                bytes: 0,
+                failed: Some(error),
+            }
+        }
     }
-    let filled = fill(fd, buf);
-    if filled.failed {
-        os::fail(name);
-    }
-    libc::close(fd);
-    filled
 }

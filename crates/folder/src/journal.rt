@@ -3,9 +3,11 @@
 ghost use Rattle.std.specs.Prelude.{◌<◌, ◌≡◌, length};
 ghost use Rattle.rules.specs.Step.{Kept};
 
-use crate::input::{fill, read_file};
-use crate::output::{print, print_number, say_malformed};
+use crate::input::{fill, open, read_file};
+use crate::output::{print, print_number, say_failed, say_malformed};
 use rules::Register;
+use std::io::Read;
+use std::rt::Files;
 
 // The register after a piece, whether there may be more to run, and whether nothing went wrong.
 #[derive(Clone, Copy)]
@@ -23,25 +25,29 @@ pub struct Shift {
 }
 
 // Runs one piece of the calls, 8192 lines or what is left of the file, and prints its journal lines if asked. `piece` counts the pieces before it.
-fn run_piece(
+fn run_piece<R: Print + Eprint, F: Read>(
+    rt: &R,
     register: Register,
     printing: bool,
     piece: u64,
-    fd: i32,
+    file: &mut F,
     text: &mut [u8],
     out: &mut [u8],
 ) -> Turn
-    requires { Kept register × (piece < 1125899906842624) × (length text.old ≡ 352256) × (length out.old ≡ 450560) }
+    requires kept { Kept register }
+    requires counted { piece < 1125899906842624 }
+    requires text { length text.old ≡ 352256 }
+    requires out { length out.old ≡ 450560 }
     ensures { Kept result.register }
 {
-    let filled = fill(fd, text);
+    let filled = fill(file, text);
     let n = filled.bytes;
     let ran = calls::run(register, &text[..n], out);
     let register = ran.register;
     let lines = ran.lines;
     let m = 55 * lines;
     if printing {
-        if !print(&out[..m]) {
+        if !print(rt, &out[..m]) {
             return Turn {
                 register,
                 more: false,
@@ -49,8 +55,8 @@ fn run_piece(
             };
         }
     }
-    if filled.failed {
-        os::fail(b"calls");
+    if let Some(error) = filled.failed {
+        say_failed(rt, b"calls", &error);
         return Turn {
             register,
             more: false,
@@ -58,7 +64,7 @@ fn run_piece(
         };
     }
     if 43 * lines != n {
-        say_malformed(8192 * piece + lines as u64 + 1);
+        say_malformed(rt, 8192 * piece + lines as u64 + 1);
         return Turn {
             register,
             more: false,
@@ -74,14 +80,22 @@ fn run_piece(
 
 // Runs the calls of the file, piece by piece. A loop has to end, and nothing says that a file does, so the pieces are counted; no file is
 // so long that the count is reached.
-fn run_pieces(opened: Register, printing: bool, fd: i32, text: &mut [u8], out: &mut [u8]) -> Shift
-    requires { Kept opened × (length text.old ≡ 352256) × (length out.old ≡ 450560) }
+fn run_pieces<R: Print + Eprint, F: Read>(
+    rt: &R,
+    opened: Register,
+    printing: bool,
+    file: &mut F,
+    text: &mut [u8],
+    out: &mut [u8],
+) -> Shift
+    requires kept { Kept opened }
+    requires text { length text.old ≡ 352256 }
+    requires out { length out.old ≡ 450560 }
     ensures { Kept result.register }
 {
     let mut register = opened;
-    let mut piece: u64 = 0;
-    while piece < 1125899906842624 {
-        let turn = run_piece(register, printing, piece, fd, text, out);
+    for piece in 0..1125899906842624u64 {
+        let turn = run_piece(rt, register, printing, piece, file, text, out);
         register = turn.register;
         if !turn.more {
             return Shift {
@@ -89,7 +103,6 @@ fn run_pieces(opened: Register, printing: bool, fd: i32, text: &mut [u8], out: &
                 whole: turn.whole,
             };
         }
-        piece += 1;
     }
     Shift {
         register,
@@ -112,52 +125,56 @@ fn room_for_journal() -> [u8; 450560]
 }
 
 // Runs the calls of the file.
-fn run_calls(opened: Register, printing: bool, fd: i32) -> Shift
+fn run_calls<R: Print + Eprint, F: Read>(
+    rt: &R,
+    opened: Register,
+    printing: bool,
+    file: &mut F,
+) -> Shift
     requires { Kept opened }
     ensures { Kept result.register }
 {
     let mut text = room_for_calls();
     let mut out = room_for_journal();
-    run_pieces(opened, printing, fd, &mut text, &mut out)
+    run_pieces(rt, opened, printing, file, &mut text, &mut out)
 }
 
 // Makes the calls of the file `calls` on the board of the file `plan`, and prints their journal if asked; the answer to a refused plan is
 // printed in any case. The longest plan has 65 lines of 19 bytes; one byte more shows a text that is too long.
-pub fn run_folder(printing: bool) -> Shift
+pub fn run_folder<R: Files + Print + Eprint>(rt: &R, printing: bool) -> Shift
     ensures { Kept result.register }
 {
     let mut text = [0u8; 1236];
-    let filled = read_file(b"plan", &mut text);
+    let filled = read_file(rt, b"plan", &mut text);
     let n = filled.bytes;
     let opened = board::open(&text[..n]);
     let register = opened.register;
-    if filled.failed {
+    if filled.failed.is_some() {
         return Shift {
             register,
             whole: false,
         };
     }
     if opened.answer != 0 {
-        print_number(opened.answer);
+        print_number(rt, opened.answer);
         return Shift {
             register,
             whole: false,
         };
     }
-    let fd = os::open_read(b"calls");
-    if fd < 0 {
-        os::fail(b"calls");
-        return Shift {
-            register,
-            whole: false,
-        };
+    match open(rt, b"calls") {
+        Ok(mut file) => run_calls(rt, register, printing, &mut file),
+        Err(error) => {
+            say_failed(rt, b"calls", &error);
+            Shift {
+                register,
+                whole: false,
+            }
+        }
     }
-    let shift = run_calls(register, printing, fd);
-    libc::close(fd);
-    shift
 }
 
 // Prints the journal of the files `plan` and `calls`.
-pub fn print_journal() {
-    run_folder(true);
+pub fn print_journal<R: Files + Print + Eprint>(rt: &R) {
+    run_folder(rt, true);
 }

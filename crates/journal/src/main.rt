@@ -1,6 +1,6 @@
 // The journal program: reads the files `plan` and `calls` in its folder and prints the journal.
 #![tactic(auto)]
 
-fn main() {
-    folder::print_journal();
+fn main(rt: HostRuntime) {
+    folder::print_journal(&rt);
 }

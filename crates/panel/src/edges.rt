@@ -4,6 +4,7 @@ ghost use Rattle.rules.specs.Step.{Kept};
 use crate::scenario::{open_board, put_call, run_files};
 use folder::{print, print_number};
 use rules::{Register, Seven};
+use std::rt::Files;
 
 // A REQUEST by officer 7 for an LPA over portion 1.
 fn request() -> Seven {
@@ -32,27 +33,27 @@ fn withdraw(number: u16) -> Seven {
 }
 
 // Puts a REQUEST with the buffer given; prints the answer, then the whole buffer as it comes back.
-fn request_into(register: Register, buffer: &mut [u8]) -> Register
+fn request_into<R: Print + Eprint>(rt: &R, register: Register, buffer: &mut [u8]) -> Register
     requires { Kept register }
     ensures { Kept result }
 {
     let called = board::call(register, request(), buffer);
-    print_number(called.answer);
-    print(buffer);
-    print(b"\n");
+    print_number(rt, called.answer);
+    print(rt, buffer);
+    print(rt, b"\n");
     called.register
 }
 
 // 54 bytes give 1 and stay as they were; 55 serve, and have number 1; of 60 the later five stay.
-pub fn buffers() {
-    print(b"buffers of 54, 55 and 60 bytes\n");
-    let opened = open_board(b"plan-line");
+pub fn buffers<R: Files + Print + Eprint>(rt: &R) {
+    print(rt, b"buffers of 54, 55 and 60 bytes\n");
+    let opened = open_board(rt, b"plan-line");
     let mut short = [46u8; 54];
-    let register = request_into(opened.register, &mut short);
+    let register = request_into(rt, opened.register, &mut short);
     let mut just = [46u8; 55];
-    let register = request_into(register, &mut just);
+    let register = request_into(rt, register, &mut just);
     let mut long = [46u8; 60];
-    request_into(register, &mut long);
+    request_into(rt, register, &mut long);
 }
 
 // A REQUEST and its WITHDRAW, not printed.
@@ -71,48 +72,46 @@ fn nearly_all_allotted(opened: Register) -> Register
     ensures { Kept result }
 {
     let mut register = opened;
-    let mut number = 1;
-    while number < 9999 {
+    for number in 1..9999u16 {
         register = request_and_withdraw(register, number);
-        number += 1;
     }
     register
 }
 
 // The last number is 9999. After it every REQUEST is 9, though no authority is live.
-pub fn last_number() {
-    print(b"9999 numbers allotted\n");
-    let opened = open_board(b"plan-line");
+pub fn last_number<R: Files + Print + Eprint>(rt: &R) {
+    print(rt, b"9999 numbers allotted\n");
+    let opened = open_board(rt, b"plan-line");
     let register = nearly_all_allotted(opened.register);
-    let register = put_call(register, request(), true);
-    let register = put_call(register, request(), true);
-    let register = put_call(register, withdraw(9999), true);
-    let register = put_call(register, request(), true);
-    put_call(register, withdraw(9999), true);
+    let register = put_call(rt, register, request(), true);
+    let register = put_call(rt, register, request(), true);
+    let register = put_call(rt, register, withdraw(9999), true);
+    let register = put_call(rt, register, request(), true);
+    put_call(rt, register, withdraw(9999), true);
 }
 
 // Writes the sheet into the buffer given; prints the answer and the number of lines, then the whole buffer as it comes back.
-fn sheet_into(register: Register, buffer: &mut [u8])
+fn sheet_into<R: Print + Eprint>(rt: &R, register: Register, buffer: &mut [u8])
     requires { Kept register }
 {
     let written = sheet::write_sheet(register, buffer);
-    print_number(written.answer);
-    print_number((written.lines % 65536) as u16);
-    print(buffer);
-    print(b"\n");
+    print_number(rt, written.answer);
+    print_number(rt, (written.lines % 65536) as u16);
+    print(rt, buffer);
+    print(rt, b"\n");
 }
 
 // 2408 bytes give 23 and stay as they were; 2409 serve, and later bytes stay, also of 2500; with 32 authorities live 2409 are filled.
-pub fn pages() {
-    print(b"pages of 2408, 2409 and 2500 bytes\n");
-    let register = run_files(b"plan-line", b"calls-e1-e6", false);
+pub fn pages<R: Files + Print + Eprint>(rt: &R) {
+    print(rt, b"pages of 2408, 2409 and 2500 bytes\n");
+    let register = run_files(rt, b"plan-line", b"calls-e1-e6", false);
     let mut short = [46u8; 2408];
-    sheet_into(register, &mut short);
+    sheet_into(rt, register, &mut short);
     let mut just = [46u8; 2409];
-    sheet_into(register, &mut just);
+    sheet_into(rt, register, &mut just);
     let mut long = [46u8; 2500];
-    sheet_into(register, &mut long);
-    print(b"a page of 33 lines in 2409 bytes\n");
-    let full = run_files(b"plan-full", b"calls-sheet-32", false);
-    sheet_into(full, &mut just);
+    sheet_into(rt, register, &mut long);
+    print(rt, b"a page of 33 lines in 2409 bytes\n");
+    let full = run_files(rt, b"plan-full", b"calls-sheet-32", false);
+    sheet_into(rt, full, &mut just);
 }

@@ -6,18 +6,16 @@ use folder::{print, print_number};
 use rules::{Booking, GateNo, Register, Train};
 
 // The numbers of the live authorities, a line each.
-fn print_authorities(register: Register)
+fn print_authorities<R: Print + Eprint>(rt: &R, register: Register)
     requires { Kept register }
 {
-    let mut i: usize = 0;
-    while i < register.live {
-        print_number(register.authorities[i].number.0);
-        i += 1;
+    for i in 0..register.live {
+        print_number(rt, register.authorities[i].number.0);
     }
 }
 
 // A train: number, head, rear and the authority it is with, in columns of 6.
-fn print_train(t: Train) {
+fn print_train<R: Print + Eprint>(rt: &R, t: Train) {
     let mut line = [10u8; 25];
     columns::write_line(
         &mut line,
@@ -29,22 +27,20 @@ fn print_train(t: Train) {
             t.with.0 as u32,
         ],
     );
-    print(&line);
+    print(rt, &line);
 }
 
 // The trains, a line each.
-fn print_trains(register: Register)
+fn print_trains<R: Print + Eprint>(rt: &R, register: Register)
     requires { Kept register }
 {
-    let mut i: usize = 0;
-    while i < register.running {
-        print_train(register.trains[i]);
-        i += 1;
+    for i in 0..register.running {
+        print_train(rt, register.trains[i]);
     }
 }
 
 // A gate that is out: its number, its paper and the paper that this one replaced, in columns of 6.
-fn print_booking(g: GateNo, booking: Booking) {
+fn print_booking<R: Print + Eprint>(rt: &R, g: GateNo, booking: Booking) {
     let mut line = [10u8; 19];
     columns::write_line(
         &mut line,
@@ -55,31 +51,29 @@ fn print_booking(g: GateNo, booking: Booking) {
             booking.replaced.0 as u32,
         ],
     );
-    print(&line);
+    print(rt, &line);
 }
 
 // The gates that are out, a line each.
-fn print_bookings(register: Register)
+fn print_bookings<R: Print + Eprint>(rt: &R, register: Register)
     requires { Kept register }
 {
-    let mut i: usize = 0;
-    while i < register.gate_count {
+    for i in 0..register.gate_count {
         let booking = register.bookings[i];
         if booking.paper.0 != 0 {
-            print_booking(GateNo(i as u16), booking);
+            print_booking(rt, GateNo(i as u16), booking);
         }
-        i += 1;
     }
 }
 
 // Prints what the register holds, in its order.
-pub fn print_held(register: Register)
+pub fn print_held<R: Print + Eprint>(rt: &R, register: Register)
     requires { Kept register }
 {
-    print(b"authorities\n");
-    print_authorities(register);
-    print(b"trains\n");
-    print_trains(register);
-    print(b"bookings\n");
-    print_bookings(register);
+    print(rt, b"authorities\n");
+    print_authorities(rt, register);
+    print(rt, b"trains\n");
+    print_trains(rt, register);
+    print(rt, b"bookings\n");
+    print_bookings(rt, register);
 }

@@ -3,56 +3,55 @@ ghost use Rattle.std.specs.Prelude.{◌≤◌, length};
 
 use crate::scenario::{Shown, scenario};
 use folder::{print, read_file};
+use std::rt::Files;
 
 // How many bytes come before the first such byte: all, where there is none.
 fn until(text: &[u8], mark: u8) -> usize
     ensures { result ≤ length text.now }
 {
-    let mut at = 0;
-    while at < text.len() {
-        if text[at] == mark {
+    for (at, byte) in text.iter().enumerate() {
+        if *byte == mark {
             return at;
         }
-        at += 1;
     }
-    at
+    text.len()
 }
 
 // Runs the scenario of a line, which comes with its line feed: the heading's last byte.
-fn run_line(line: &[u8], shown: Shown) {
+fn run_line<R: Files + Print + Eprint>(rt: &R, line: &[u8], shown: Shown) {
     let plan_end = until(line, b' ');
     if plan_end == line.len() {
-        print(b"malformed\n");
+        print(rt, b"malformed\n");
         return;
     }
     let plan = &line[0..plan_end];
     let rest = &line[plan_end + 1..];
     let calls_end = until(rest, b' ');
     if calls_end == rest.len() {
-        print(b"malformed\n");
+        print(rt, b"malformed\n");
         return;
     }
-    scenario(&rest[calls_end + 1..], plan, &rest[0..calls_end], shown);
+    scenario(rt, &rest[calls_end + 1..], plan, &rest[0..calls_end], shown);
 }
 
 // Runs the scenarios of the list, line by line. A last line without a line feed is malformed.
-fn run_lines(list: &[u8], shown: Shown) {
+fn run_lines<R: Files + Print + Eprint>(rt: &R, list: &[u8], shown: Shown) {
     let mut at = 0;
     while at < list.len() {
         let end = at + until(&list[at..], b'\n');
         if end == list.len() {
-            print(b"malformed\n");
+            print(rt, b"malformed\n");
             return;
         }
-        run_line(&list[at..end + 1], shown);
+        run_line(rt, &list[at..end + 1], shown);
         at = end + 1;
     }
 }
 
 // Runs the scenarios of the file, each with what is to be shown of it. There is room for some 300 lines.
-pub fn run_list(file: &[u8], shown: Shown) {
+pub fn run_list<R: Files + Print + Eprint>(rt: &R, file: &[u8], shown: Shown) {
     let mut text = [0u8; 16384];
-    let filled = read_file(file, &mut text);
+    let filled = read_file(rt, file, &mut text);
     let n = filled.bytes;
-    run_lines(&text[..n], shown);
+    run_lines(rt, &text[..n], shown);
 }

@@ -10,11 +10,11 @@ mod scenario;
 
 use scenario::Shown;
 
-fn main() {
-    list::run_list(b"scenarios", Shown::Journal);
-    edges::buffers();
-    edges::last_number();
-    list::run_list(b"sheets", Shown::Sheet);
-    edges::pages();
-    list::run_list(b"registers", Shown::Held);
+fn main(rt: HostRuntime) {
+    list::run_list(&rt, b"scenarios", Shown::Journal);
+    edges::buffers(&rt);
+    edges::last_number(&rt);
+    list::run_list(&rt, b"sheets", Shown::Sheet);
+    edges::pages(&rt);
+    list::run_list(&rt, b"registers", Shown::Held);
 }
