@@ -1,5 +1,5 @@
 -- A function whose first parameter is a `&mut [T; k]` may take the list behind it to have k elements: the borrow is opened on entry, and shut
--- again. The borrow checker hands no need that fact, though it hands it of an array by value. Assumes the logic's `Logic`, as every proof of code.
+-- again. The check hands goals that fact itself; this is the rule for a proof that walks the code. Assumes the logic's `Logic`, as every proof of code.
 use Prim.Native.Nat.{ℕ}
 use mathlib.Core.Path.{◌≡◌, refl}
 use mathlib.Core.List.{List, [], ◌∷◌}

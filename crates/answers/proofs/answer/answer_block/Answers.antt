@@ -14,7 +14,7 @@ returns-then-not-can_be_blocked c =
       ← c.has.ensures,
       c.if-has.false,
       ← c.can_be_blocked.ensures,
-      c.if-not-can_be_blocked.true-raw,
+      c.if-not-can_be_blocked.true,
     )
 
 pub returns : goal.returns
@@ -24,5 +24,5 @@ returns c =
       ← c.has.ensures,
       c.if-has.false,
       ← c.can_be_blocked.ensures,
-      c.if-not-can_be_blocked.false-raw,
+      c.if-not-can_be_blocked.false,
     )

@@ -5,14 +5,14 @@ use Rattle.answers.proofs.answer.answer_unblock.Goals as goal
 
 pub returns-then-not-has : goal.returns-then-not-has
 unfolding board_of lowest
-returns-then-not-has c = rw (← c.has.ensures, c.if-not-has.true-raw)
+returns-then-not-has c = rw (← c.has.ensures, c.if-not-has.true)
 
 pub returns-then-is_still_needed : goal.returns-then-is_still_needed
 unfolding board_of lowest
 returns-then-is_still_needed c =
     rw (
       ← c.has.ensures,
-      c.if-not-has.false-raw,
+      c.if-not-has.false,
       ← c.is_still_needed.ensures,
       c.if-is_still_needed.true,
     )
@@ -22,7 +22,7 @@ unfolding board_of lowest
 returns c =
     rw (
       ← c.has.ensures,
-      c.if-not-has.false-raw,
+      c.if-not-has.false,
       ← c.is_still_needed.ensures,
       c.if-is_still_needed.false,
     )
