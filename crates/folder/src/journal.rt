@@ -34,10 +34,7 @@ fn run_piece<R: Print + Eprint, F: Read>(
     text: &mut [u8],
     out: &mut [u8],
 ) -> Turn
-    requires kept { Kept register }
-    requires counted { piece < 1125899906842624 }
-    requires text { length text.old ≡ 352256 }
-    requires out { length out.old ≡ 450560 }
+    requires { Kept register × (piece < 1125899906842624) × (length text.old ≡ 352256) × (length out.old ≡ 450560) }
     ensures { Kept result.register }
 {
     let filled = fill(file, text);
@@ -88,9 +85,7 @@ fn run_pieces<R: Print + Eprint, F: Read>(
     text: &mut [u8],
     out: &mut [u8],
 ) -> Shift
-    requires kept { Kept opened }
-    requires text { length text.old ≡ 352256 }
-    requires out { length out.old ≡ 450560 }
+    requires { Kept opened × (length text.old ≡ 352256) × (length out.old ≡ 450560) }
     ensures { Kept result.register }
 {
     let mut register = opened;
