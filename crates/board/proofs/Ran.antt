@@ -193,7 +193,7 @@ module _ (κs : Lfts 1) (a : Dens κs call-kinds.ps) (out : Called) (x : AtExit 
   -- call recorded another with it, with the agreement that it had recorded
   pub authority_kept : Kept a.0 → (o : Authority) → Member o b.authorities → ended_by (authority_no o) (answered s out.answer) ≡ false
       → StaysIn (agreed_by (authority_no o) (answered s out.answer)) o (board_of out.register).authorities
-  unfolding any trace final
+  unfolding trace final
   authority_kept k o m e =
       let told : ended_by (authority_no o) (answered s (answer b s room)) ≡ false =
       subst (λ (n : ℕ). ended_by (authority_no o) (answered s n) ≡ false) p.answered e in

@@ -104,16 +104,13 @@ difference_number a b n e = go (ltb a b) refl e
 -- ---- a cell is read back, whatever its width
 
 any_blanks : (test : ℕ → Bool) (k : ℕ) (s : List ℕ) → test 32 ≡ false → any test (replicate k 32 ++ s) ≡ any test s
-unfolding any
 any_blanks test zero s e = refl
 any_blanks test (suc k) s e = rw (e, any_blanks test k s e)
 
 digits_printed : (n : ℕ) → any is_printed (digits n) ≡ true
-unfolding any
 digits_printed n = let t = starts n in let l : t.0 ≡ 32 → ⊥ = (λ e. omega arith) in rw (t.2, ne_eqb t.0 32 l)
 
 digits_plain : (n : ℕ) → any is_minus (digits n) ≡ false
-unfolding any
 digits_plain =
     by_tenths
     (λ n. any is_minus (digits n) ≡ false)
@@ -122,7 +119,7 @@ digits_plain =
 
 marks_back : (c : Cell)
     → cond (any is_printed (marks c)) (cond (any is_minus (marks c)) (Minus (value_from 0 (marks c))) (Number (value_from 0 (marks c)))) Empty ≡ c
-unfolding marks any value_from
+unfolding marks value_from
 marks_back Empty = refl
 marks_back (Number n) = rw (digits_printed n, digits_plain n, value_digits n)
 marks_back (Minus n) = rw (value_digits n)

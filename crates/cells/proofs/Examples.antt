@@ -31,5 +31,5 @@ unfolding digits_in digits marks cell_fits
 no_room_lem = refl
 
 pub overrun_read : cell_in (bytes "      -55") ≡ Minus 55
-unfolding any value_from cell_in bytes
+unfolding value_from cell_in bytes
 overrun_read = refl

@@ -50,7 +50,6 @@ any_step true b = refl
 any_step false b = refl
 
 pub any_searches : {A : Type 0} (test : A → Bool) → Searches test (λ x. true) false (any test)
-unfolding any
 any_searches test = record { of_none = refl; of_one = λ x xs. any_step (test x) (any test xs) }
 
 as_step : {A R : Type 0} (a b : Bool) (found : A → R) (none r : R) (x y : A) → r ≡ cond b (found y) none
@@ -61,7 +60,7 @@ as_step false b found none r x y e = e
 -- in the words of `any` and `first`
 pub search_as : {A R : Type 0} {test : A → Bool} {found : A → R} {none : R} {answer : List A → R} → Searches test found none answer
     → (d : A) (l : List A) → answer l ≡ cond (any test l) (found (first test d l)) none
-unfolding any first
+unfolding first
 search_as s d [] = s.of_none
 search_as {test = test} {found = found} {none = none} {answer = answer} s d (x ∷ xs) =
     s.of_one x xs ∙ as_step (test x) (any test xs) found none (answer xs) x (first test d xs) (search_as s d xs)
@@ -185,7 +184,6 @@ pub record Keeping {A : Type 0} (test : A → Bool) (l now : List A) (count i j 
   pub rest : drop i now ≡ drop i l
 
 pub keeping_start : {A : Type 0} {test : A → Bool} {l : List A} {count : ℕ} → count ≤ 32 → length l ≡ 32 → Keeping test l l count 0 0
-unfolding keep
 keeping_start fits places =
     record { place = start fits places; behind = omega arith; room = places; so_far = rw prefix_none; rest = refl }
 
@@ -240,7 +238,7 @@ pub record Inserting {A : Type 0} (number : A → ℕ) (x : A) (l now : List A) 
   pub waiting : met ≡ false → (hand ≡ x) × (now ≡ l)
 
 pub inserting_start : {A : Type 0} {number : A → ℕ} {x : A} {l : List A} {count : ℕ} → count < 32 → length l ≡ 32 → Inserting number x l l count 0 x false
-unfolding insert_by any
+unfolding insert_by
 inserting_start fits places =
     record { place = start (omega arith) places; room = places; so_far = rw prefix_none; higher_met = rw prefix_none; rest = refl; waiting = λ e. (refl, refl) }
 
@@ -260,7 +258,6 @@ module _ {A : Type 0} {number : A → ℕ} {x : A} {l now : List A} {count i : �
     one_further = let p = at.place in rw here_too (prefix_next l i d (omega arith))
 
     met_next : (met || ltb (number x) (number y)) ≡ any (higher number x) (prefix (i + 1) l)
-    unfolding any
     met_next = rw (one_further, any_append (higher number x) (prefix i l) (y ∷ []), at.higher_met, or-false)
 
     -- y is behind x: the one in hand takes its place, and y is in hand

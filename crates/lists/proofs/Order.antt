@@ -60,7 +60,7 @@ module _ {A : Type 0} (number : A → ℕ) where
 
   -- some of them
   pub ascending_keep : (test : A → Bool) (xs : List A) → Ascending number xs → Ascending number (keep test xs)
-  unfolding Ascending keep
+  unfolding Ascending
   ascending_keep test [] u = tt
   ascending_keep test (x ∷ xs) u = keep_step test x xs (test x) u.0 (ascending_keep test xs u.1)
 
@@ -134,7 +134,7 @@ module _ {A : Type 0} (number : A → ℕ) where
 
     -- one with a free number, put in its place
     pub ascending_insert : (xs : List A) → Ascending number xs → Free number (number x) xs → Ascending number (insert_by number x xs)
-    unfolding Ascending insert_by any
+    unfolding Ascending insert_by
     ascending_insert [] u free = (λ y m. elim m [ ], tt)
     ascending_insert (z ∷ zs) u free =
         insert_step z zs (higher z) refl (eqb-false (number z) (number x) (or_no_l (numbered number (number x) z) (any (numbered number (number x)) zs) free))
@@ -150,7 +150,7 @@ module _ {A : Type 0} (number : A → ℕ) where
 
     -- where y or one before it has a higher number, y stays the last
     pub insert_behind : (xs : List A) (y : A) → any higher (xs ++ (y ∷ [])) ≡ true → insert_by number x (xs ++ (y ∷ [])) ≡ insert_by number x xs ++ (y ∷ [])
-    unfolding insert_by any
+    unfolding insert_by
     insert_behind [] y h = first (higher y) h
       where
         first : (t : Bool) → (t || false) ≡ true → cond t (x ∷ y ∷ []) (y ∷ x ∷ []) ≡ x ∷ y ∷ []
@@ -160,7 +160,7 @@ module _ {A : Type 0} (number : A → ℕ) where
 
     -- where none has, x is the last
     pub insert_last : (xs : List A) → any higher xs ≡ false → insert_by number x xs ≡ xs ++ (x ∷ [])
-    unfolding insert_by any
+    unfolding insert_by
     insert_last [] h = refl
     insert_last (z ∷ zs) h =
         rw (or_no_l (higher z) (any higher zs) h) (ap (λ (l : List A). z ∷ l) (insert_last zs (or_no_r (higher z) (any higher zs) h)))

@@ -67,7 +67,6 @@ module _ {A : Type 0} (l : List A) (count i : ℕ) where
   left_none h = drop_of_length-le (take count l) {i = i} (simp length-take (omega arith))
 
   pub any_end : (test : A → Bool) → count ≤ i → any test (drop i (prefix count l)) ≡ false
-  unfolding any
   any_end test h = rw (left_none h)
 
   pub first_end : (test : A → Bool) (d : A) → count ≤ i → first test d (drop i (prefix count l)) ≡ d
@@ -83,11 +82,9 @@ module _ {A : Type 0} (l : List A) (count i : ℕ) where
         rw (add-one, drop-cons (take count l) i d s, get_or-take count l i d within)
 
     pub any_hit : (test : A → Bool) → test (get_or l i d) ≡ true → any test (drop i (prefix count l)) ≡ true
-    unfolding any
     any_hit test e = rw (left_at, e)
 
     pub any_miss : (test : A → Bool) → test (get_or l i d) ≡ false → any test (drop i (prefix count l)) ≡ any test (drop (i + 1) (prefix count l))
-    unfolding any
     any_miss test e = rw (left_at, e)
 
     pub first_hit : (test : A → Bool) (z : A) → test (get_or l i d) ≡ true → first test z (drop i (prefix count l)) ≡ get_or l i d
@@ -105,12 +102,10 @@ module _ {A : Type 0} (test : A → Bool) (l : List A) (i : ℕ) (d : A) (within
   -- the first j places of b hold what is kept so far
   pub keep_hit : (b : List A) (j : ℕ) → j < length b → test (get_or l i d) ≡ true → prefix j b ≡ keep test (prefix i l)
       → prefix (j + 1) (set b j (get_or l i d)) ≡ keep test (prefix (i + 1) l)
-  unfolding keep
   keep_hit b j room e so_far =
       stored_last b j (get_or l i d) room ∙ rw (so_far, prefix_next l i d within, keep_append test (prefix i l) (get_or l i d ∷ []), e)
 
   pub keep_miss : test (get_or l i d) ≡ false → keep test (prefix i l) ≡ keep test (prefix (i + 1) l)
-  unfolding keep
   keep_miss e = rw (prefix_next l i d within, keep_append test (prefix i l) (get_or l i d ∷ []), e) (sym (append-nil (keep test (prefix i l))))
 
 -- the list changed before i, and as it was from i on

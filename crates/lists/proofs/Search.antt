@@ -19,7 +19,6 @@ module _ {A : Type 0} where
   -- ---- some element passes
 
   pub any_no : (test : A → Bool) (xs : List A) → any test xs ≡ false → (x : A) → Member x xs → test x ≡ false
-  unfolding any
   any_no test [] h x m = elim m [ ]
   any_no test (y ∷ ys) h x (Memᴰ.head e) = ap test e ∙ or_no_l (test y) (any test ys) h
   any_no test (y ∷ ys) h x (Memᴰ.tail m) = any_no test ys (or_no_r (test y) (any test ys) h) x m
@@ -28,13 +27,11 @@ module _ {A : Type 0} where
   any_yes test xs x m h = ⊎_elim (λ e. e) (λ e. clash h (any_no test xs e x m)) (truth (any test xs))
 
   pub any_none : (test : A → Bool) (xs : List A) → ((x : A) → Member x xs → test x ≡ false) → any test xs ≡ false
-  unfolding any
   any_none test [] h = refl
   any_none test (x ∷ xs) h =
       or_no (test x) (any test xs) (h x (Memᴰ.head refl)) (any_none test xs (λ y m. h y (Memᴰ.tail m)))
 
   pub any_append : (test : A → Bool) (xs ys : List A) → any test (xs ++ ys) ≡ (any test xs || any test ys)
-  unfolding any
   any_append test [] ys = refl
   any_append test (x ∷ xs) ys =
       ap (λ (b : Bool). test x || b) (any_append test xs ys) ∙ sym (or_assoc (test x) (any test xs) (any test ys))
@@ -52,7 +49,7 @@ module _ {A : Type 0} where
   first_step test d y ys ih false e h = record { member = Memᴰ.tail (ih h).member; passes = (ih h).passes }
 
   pub first_found : (test : A → Bool) (d : A) (xs : List A) → any test xs ≡ true → Passes test xs (first test d xs)
-  unfolding any first
+  unfolding first
   first_found test d [] h = absurd (false≢true h)
   first_found test d (y ∷ ys) h = first_step test d y ys (first_found test d ys) (test y) refl h
 
@@ -61,14 +58,14 @@ module _ {A : Type 0} where
   none_step d y z false b h ih = ih h
 
   pub first_none : (test : A → Bool) (d : A) (xs : List A) → any test xs ≡ false → first test d xs ≡ d
-  unfolding any first
+  unfolding first
   first_none test d [] h = refl
   first_none test d (y ∷ ys) h = none_step d y (first test d ys) (test y) (any test ys) h (first_none test d ys)
 
   -- ---- the last that passes
 
   pub last_none : (test : A → Bool) (d : A) (xs : List A) → any test xs ≡ false → last test d xs ≡ d
-  unfolding any last
+  unfolding last
   last_none test d [] h = refl
   last_none test d (y ∷ ys) h = rw (or_no_l (test y) (any test ys) h) (last_none test d ys (or_no_r (test y) (any test ys) h))
 
@@ -83,7 +80,6 @@ module _ {A : Type 0} where
 
   -- what is kept was there and passes
   pub kept : (test : A → Bool) (xs : List A) (x : A) → Member x (keep test xs) → Passes test xs x
-  unfolding keep
   kept test [] x m = elim m [ ]
   kept test (y ∷ ys) x m = kept_step test x y ys (kept test ys x) (test y) refl m
 
@@ -96,7 +92,6 @@ module _ {A : Type 0} where
 
   -- what was there and passes is kept
   pub keeps : (test : A → Bool) (xs : List A) (x : A) → test x ≡ true → Member x xs → Member x (keep test xs)
-  unfolding keep
   keeps test [] x h m = elim m [ ]
   keeps test (y ∷ ys) x h m = keeps_step test x y ys (keeps test ys x h) h (test y) refl (Memᴰ.cases_cons m)
 
@@ -105,7 +100,6 @@ module _ {A : Type 0} where
   append_step false x xs ys = refl
 
   pub keep_append : (test : A → Bool) (xs ys : List A) → keep test (xs ++ ys) ≡ keep test xs ++ keep test ys
-  unfolding keep
   keep_append test [] ys = refl
   keep_append test (x ∷ xs) ys =
       ap (λ (l : List A). cond (test x) (x ∷ l) l) (keep_append test xs ys) ∙ sym (append_step (test x) x (keep test xs) (keep test ys))
@@ -115,7 +109,6 @@ module _ {A : Type 0} where
   length_step false x xs n h = omega arith
 
   pub length-keep : (test : A → Bool) (xs : List A) → length (keep test xs) ≤ length xs
-  unfolding keep
   length-keep test [] = omega arith
   length-keep test (x ∷ xs) = length_step (test x) x (keep test xs) (length xs) (length-keep test xs)
 

@@ -1,11 +1,11 @@
 -- Searches in a list and changes of a list, by a test on one element. Each computes. Assumes nothing.
-use Rattle.std.specs.Prelude.{ℕ, zero, suc, Bool, false, cond, ◌||◌, List, [], ◌∷◌}
+use Rattle.std.specs.Prelude.{ℕ, zero, suc, Bool, cond, List, [], ◌∷◌, filter}
+use Rattle.std.specs.List.{list_any}
 
 module _ {A : Type 0} where
   -- some element passes the test
-  unfoldable pub any : (A → Bool) → List A → Bool
-  any test [] = false
-  any test (x ∷ xs) = test x || any test xs
+  abbrev pub any : (A → Bool) → List A → Bool
+  any test xs = list_any test xs
 
   -- the first element that passes the test, or d where none does
   unfoldable pub first : (A → Bool) → A → List A → A
@@ -18,9 +18,8 @@ module _ {A : Type 0} where
   last test d (x ∷ xs) = last test (cond (test x) x d) xs
 
   -- the elements that pass the test, in their order
-  unfoldable pub keep : (A → Bool) → List A → List A
-  keep test [] = []
-  keep test (x ∷ xs) = cond (test x) (x ∷ keep test xs) (keep test xs)
+  abbrev pub keep : (A → Bool) → List A → List A
+  keep test xs = filter test xs
 
   -- each element that passes the test is changed by f, in its place; the others stay
   unfoldable pub change : (A → Bool) → (A → A) → List A → List A

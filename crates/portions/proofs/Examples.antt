@@ -53,11 +53,11 @@ outside = refl
 
 -- neighbours share nothing; runs with 1 in common do
 neighbours : shares (run 0 0) (run 1 1) ≡ false
-unfolding shares any below has run set_of
+unfolding shares below has run set_of
 neighbours = refl
 
 touching : shares (run 0 1) (run 1 2) ≡ true
-unfolding shares any below has run set_of
+unfolding shares below has run set_of
 touching = refl
 
 -- 63 put in and taken out; 64 is put in nowhere
@@ -75,11 +75,11 @@ left_out = refl
 
 -- a part is in the whole, and the whole not in the part
 part : subset (run 5 40) (run 0 63) ≡ true
-unfolding subset any below has run set_of
+unfolding subset below has run set_of
 part = refl
 
 whole : subset (run 0 63) (run 5 40) ≡ false
-unfolding subset any below has run set_of
+unfolding subset below has run set_of
 whole = refl
 
 -- runs that overlap, joined
@@ -89,11 +89,11 @@ joined = refl
 
 -- how many: all 64 of them, and none
 size_all : size (run 0 63) ≡ 64
-unfolding size keep below has run set_of
+unfolding size below has run set_of
 size_all = refl
 
 size_none : size 0 ≡ 0
-unfolding size keep below has
+unfolding size below has
 size_none = refl
 
 -- the least and the greatest: of a run, of one member, and 64 of no member

@@ -245,7 +245,7 @@ count_next set n l =
 
 -- the ones among the digits below n are the members below n
 ones_below : (n set : ℕ) → ones (set % 2 ^ n) ≡ length (keep (is_member set) (below n))
-unfolding keep below
+unfolding below
 ones_below zero set = rw mod-one (ones-ones 0)
 ones_below (suc n) set =
     rw (← one-add n, mod-pow-add, ones_cat n (set / 2 ^ n % 2) (set % 2 ^ n) (mod-lt set (pow_pos n)), ones_below n set) (count_next set n _)

@@ -15,13 +15,12 @@ use Rattle.rules.specs.Sheet.{holds, is_held, held_portions}
 
 -- no authority holds none
 pub held_none : 0 ≡ held_portions []
-unfolding held_portions any
+unfolding held_portions
 held_none = is_set_of 64 0 (is_held []) (pow_pos 64) (λ p l. has_none p)
 
 -- one authority more, in force: its limits are held too
 module _ (xs : List Authority) (a : Authority) where
   held_one : (p : ℕ) → is_held (xs ++ (a ∷ [])) p ≡ (is_held xs p || holds p a)
-  unfolding any
   held_one p = any_append (holds p) xs (a ∷ []) ∙ ap (λ (t : Bool). is_held xs p || t) (or-false (holds p a))
 
   pub held_more : is_in_force a ≡ true → union (held_portions xs) a.limits ≡ held_portions (xs ++ (a ∷ []))

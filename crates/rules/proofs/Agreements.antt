@@ -39,7 +39,7 @@ module _ (b : Board) (o : Once b) (s : Seven) (room n : ℕ) (l : live b n ≡ t
 
   -- THEOREM: each call keeps it that neither ends n nor records an agreement with it
   pub call_keeps : ends n (named s) ≡ false → agrees n (named s) ≡ false → KeepsNumber
-  unfolding any trace final ended_by agreed_by live
+  unfolding trace final ended_by agreed_by live
   call_keeps e g =
       let made : Made = record { seven = s; room = room } in
       let there = authority_there b n l in

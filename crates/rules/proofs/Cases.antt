@@ -177,5 +177,5 @@ pub record Cases : Type 0 where
       ≡ (1 ∷ 0 ∷ []) ∷ (3 ∷ 0 ∷ []) ∷ (4 ∷ 3 ∷ []) ∷ []
 
 pub cases : Cases
-unfolding plan_text plain_text printed answers trains_after papers_after recorded_after bytes Search.any Search.first Search.keep Search.change Search.below Order.insert_by Column.digits_in Column.digits Column.column Line.line Reading.same_text Reading.value_from Reading.is_column Reading.read_column Reading.first_column Reading.row_of Sets.has Sets.set_of Sets.run Sets.insert Sets.remove Sets.shares Board.opened Board.closed Board.live Board.authority Board.on_board Board.train Board.touches Board.touches_portion Board.needs Board.is_out Board.can_be_blocked Call.is_day Call.is_time Call.minute_of Call.in_range Call.in_ranges Call.calls Call.entry_of Call.is_call Call.named Call.in_form Refusals.lowest Refusals.early Refusals.not_live Refusals.not_officer Refusals.not_to_agree Refusals.not_to_join Refusals.rests_on Refusals.not_at_distance Refusals.is_e Refusals.is_w Refusals.any_e Refusals.any_w Refusals.the_w Refusals.no_room Refusals.is_other_at Refusals.taken Refusals.worked_on Refusals.is_at Refusals.not_there Refusals.barred Refusals.pilot Refusals.not_piloted Refusals.full Refusals.is_open Refusals.unprotected Refusals.occupied Refusals.occupied_beside Refusals.in_the_way Refusals.clashes Refusals.overlaps Refusals.in_force_needs Refusals.still_needed Refusals.minute Refusals.not_pending_lpa Refusals.too_soon Refusals.in_term Refusals.outside_term Refusals.not_booked Refusals.restores_blocked Refusals.own Refusals.conditions Refusals.answer Effects.effect Plan.plan_line Plan.plan_number Plan.is_head Plan.is_place Plan.is_gate Plan.gate_on Plan.are_gates Plan.gates_on Plan.is_plan Plan.open_board Journal.journal_line Journal.line_after Step.after Step.allotted
+unfolding plan_text plain_text printed answers trains_after papers_after recorded_after bytes Search.first Search.change Search.below Order.insert_by Column.digits_in Column.digits Column.column Line.line Reading.same_text Reading.value_from Reading.is_column Reading.read_column Reading.first_column Reading.row_of Sets.has Sets.set_of Sets.run Sets.insert Sets.remove Sets.shares Board.opened Board.closed Board.live Board.authority Board.on_board Board.train Board.touches Board.touches_portion Board.needs Board.is_out Board.can_be_blocked Call.is_day Call.is_time Call.minute_of Call.in_range Call.in_ranges Call.calls Call.entry_of Call.is_call Call.named Call.in_form Refusals.lowest Refusals.early Refusals.not_live Refusals.not_officer Refusals.not_to_agree Refusals.not_to_join Refusals.rests_on Refusals.not_at_distance Refusals.is_e Refusals.is_w Refusals.any_e Refusals.any_w Refusals.the_w Refusals.no_room Refusals.is_other_at Refusals.taken Refusals.worked_on Refusals.is_at Refusals.not_there Refusals.barred Refusals.pilot Refusals.not_piloted Refusals.full Refusals.is_open Refusals.unprotected Refusals.occupied Refusals.occupied_beside Refusals.in_the_way Refusals.clashes Refusals.overlaps Refusals.in_force_needs Refusals.still_needed Refusals.minute Refusals.not_pending_lpa Refusals.too_soon Refusals.in_term Refusals.outside_term Refusals.not_booked Refusals.restores_blocked Refusals.own Refusals.conditions Refusals.answer Effects.effect Plan.plan_line Plan.plan_number Plan.is_head Plan.is_place Plan.is_gate Plan.gate_on Plan.are_gates Plan.gates_on Plan.is_plan Plan.open_board Journal.journal_line Journal.line_after Step.after Step.allotted
 cases = record { journal = refl; e7 = refl; e8 = refl; e9 = refl; e10 = refl; lpa = refl; notice = refl; week = refl; start = refl; end = refl; over = refl; nearest = refl; farthest = refl; too_near = refl; too_far = refl; another = refl; entered = refl; left = refl; plain = refl; protects = refl; out = refl; combinations = refl; renewed = refl; restored = refl; toa_ended = refl; twa_ended = refl; handed_over = refl; joined_handed_over = refl; continued_none = refl; continued_own = refl }

@@ -61,7 +61,7 @@ refused_plan text e = (rw e, rw e)
 
 -- no call's conditions are all false on it: a field that names a portion or a gate is out of range, no authority is live, no train is on it
 closed_refuses : (s : Seven) (c : Call) → Accepted closed s c → ⊥
-unfolding closed opened own condition_at not_live live on_board any
+unfolding closed opened own condition_at not_live live on_board
 closed_refuses s NoSuchCall k = k.ranges
 closed_refuses s BadField k = k.ranges
 closed_refuses s (Request kind first last officer) k = omega (arith, k.ranges)

@@ -206,7 +206,7 @@ list_step b o c ms x m ih false e o' here later = ih b o x m later
 -- is still to come; so is a TWA whose TOA has ended, and a TOA whose joined TWA has.
 pub authority_stays : (ms : List Made) (b : Board) → Once b → (x : Authority) → Member x b.authorities
     → any (ended_by (authority_no x)) (trace b ms) ≡ false → StaysIn (any (agreed_by (authority_no x)) (trace b ms)) x (final b ms).authorities
-unfolding any trace final after ended_by agreed_by
+unfolding trace final after ended_by agreed_by
 authority_stays [] b o x m h = (x, m, as_it_was x)
 authority_stays (c ∷ ms) b o x m h =
     let later = any (ended_by (authority_no x)) (trace (after b c.seven c.room) ms) in

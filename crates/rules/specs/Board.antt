@@ -2,7 +2,6 @@
 -- order 6: bookings, order 7: agreements). Assumes nothing.
 use Rattle.std.specs.Prelude.{ℕ, ◌≡◌, Bool, true, false, not, ◌&&◌, ◌||◌, List, [], ◌∷◌, length, replicate, get_or, eqb}
 use Rattle.lists.specs.Search.{any, first, keep, change}
-use Rattle.lists.specs.Prefix.{prefix}
 use Rattle.portions.specs.Sets.{has}
 use Rattle.rules.specs.declared.Kind.{Kind}
 use Rattle.rules.specs.declared.Kind.TheVariants.{Lpa, Toa, Twa}
@@ -30,18 +29,18 @@ pub record Board : Type 0 where
   pub authorities : List Authority
   pub trains : List Train
 
--- the board that a register stands for; places of its arrays past the counts are not looked at
+-- the board that a register stands for
 unfoldable pub board_of : Register → Board
 board_of r = record {
   portions = r.portions;
-  gates = prefix r.gate_count r.gates;
-  bookings = prefix r.gate_count r.bookings;
+  gates = r.gates.items;
+  bookings = r.bookings.items;
   day = r.day;
   time = r.time;
   last = r.last;
   blocks = r.blocks;
-  authorities = prefix r.live r.authorities;
-  trains = prefix r.running r.trains;
+  authorities = r.authorities.items;
+  trains = r.trains.items;
 }
 
 -- the booking of a gate that isn't booked out of use: a paper is 1 to 9999, so that the paper 0 stands for none

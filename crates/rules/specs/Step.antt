@@ -58,12 +58,9 @@ pub record Once (b : Board) : Type 0 where
   pub last : b.last ≤ 9999
   pub allotted : (a : Authority) → Memᴰ a b.authorities → (1 ≤ authority_no a) × (authority_no a ≤ b.last)
 
--- a register's counts are within its arrays, and its portions fit a set
+-- the portions of a register fit a set
 pub record Bounds (r : Register) : Type 0 where
   pub portions : r.portions ≤ 64
-  pub gates : r.gate_count ≤ 64
-  pub live : r.live ≤ 32
-  pub running : r.running ≤ 32
 
 -- "Day is 0 to 9999": a term starts in a minute of those 10,000 days of 1440 minutes
 abbrev pub Starts : Board → Type 0

@@ -4,22 +4,25 @@
 
 pub mod refusal;
 
+use arrayvec::ArrayVec;
+
 // The four kinds of number that are never taken for one another: those of authorities, of trains, of gates, and of the papers that book a gate out of use.
-#[derive(Clone, Copy)]
+#[derive(Clone, Copy, Debug, Default, PartialEq, Eq)]
 pub struct AuthorityNo(pub u16);
 
-#[derive(Clone, Copy)]
+#[derive(Clone, Copy, Debug, Default, PartialEq, Eq)]
 pub struct TrainNo(pub u16);
 
-#[derive(Clone, Copy)]
+#[derive(Clone, Copy, Debug, Default, PartialEq, Eq)]
 pub struct GateNo(pub u16);
 
-#[derive(Clone, Copy)]
+#[derive(Clone, Copy, Debug, Default, PartialEq, Eq)]
 pub struct PaperNo(pub u16);
 
 // The kinds of authority. LPA and TOA are exclusive.
-#[derive(Clone, Copy)]
+#[derive(Clone, Copy, Debug, Default, PartialEq, Eq)]
 pub enum Kind {
+    #[default]
     Lpa,
     Toa,
     Twa,
@@ -157,7 +160,7 @@ pub enum Call {
 }
 
 // A gate: traffic goes from one portion to another; 99 is outside the board.
-#[derive(Clone, Copy)]
+#[derive(Clone, Copy, Debug, Default, PartialEq, Eq)]
 pub struct Gate {
     pub from: u16,
     pub to: u16,
@@ -165,7 +168,7 @@ pub struct Gate {
 }
 
 // A gate's booking: the paper that it is booked out of use under, 0 where it isn't out, and the paper that this one replaced, or 0.
-#[derive(Clone, Copy)]
+#[derive(Clone, Copy, Debug, Default, PartialEq, Eq)]
 pub struct Booking {
     pub paper: PaperNo,
     pub replaced: PaperNo,
@@ -173,7 +176,7 @@ pub struct Booking {
 
 // A live authority. The limits are a set of portions (crate portions); agreed is the authority whose officer's agreement it rests on, a TWA's TOA
 // by AGREE and a TOA's TWA by JOIN, or 0; start is the minute in which its term starts and length the term's minutes, both 0 where it has none.
-#[derive(Clone, Copy)]
+#[derive(Clone, Copy, Debug, Default, PartialEq, Eq)]
 pub struct Authority {
     pub number: AuthorityNo,
     pub kind: Kind,
@@ -187,7 +190,7 @@ pub struct Authority {
 }
 
 // A train on the board: its head and rear portion, and the authority it is with, or 0. The head may be outside, 99.
-#[derive(Clone, Copy)]
+#[derive(Clone, Copy, Debug, Default, PartialEq, Eq)]
 pub struct Train {
     pub number: TrainNo,
     pub head: u16,
@@ -195,33 +198,30 @@ pub struct Train {
     pub with: AuthorityNo,
 }
 
-// The board's whole state. Of each array only the first places, as many as its count says, are in use; authorities and trains stand by ascending number.
-// bookings has a place for each gate; blocks is a set of gates; last is the last number allotted; day and time are the stamp of the last accepted call.
-#[derive(Clone, Copy)]
+// The board's whole state: the gates of the plan by number, and the booking of each; the live authorities and the trains on the board, by ascending
+// number. blocks is a set of gates; last is the last number allotted; day and time are the stamp of the last accepted call.
+#[derive(Drop)]
 pub struct Register {
     pub portions: u16,
-    pub gate_count: usize,
-    pub gates: [Gate; 64],
-    pub bookings: [Booking; 64],
+    pub gates: ArrayVec<Gate, 64>,
+    pub bookings: ArrayVec<Booking, 64>,
     pub day: u16,
     pub time: u16,
     pub last: u16,
     pub blocks: u64,
-    pub live: usize,
-    pub authorities: [Authority; 32],
-    pub running: usize,
-    pub trains: [Train; 32],
+    pub authorities: ArrayVec<Authority, 32>,
+    pub trains: ArrayVec<Train, 32>,
 }
 
 // What opening returns: the register, and 0 or the refusal.
-#[derive(Clone, Copy)]
+#[derive(Drop)]
 pub struct Opened {
     pub register: Register,
     pub answer: u16,
 }
 
 // What a call returns: the register, 0 or the refusal, and the number allotted or 0.
-#[derive(Clone, Copy)]
+#[derive(Drop)]
 pub struct Called {
     pub register: Register,
     pub answer: u16,

@@ -55,7 +55,7 @@ any_other_at n p ts = ap (λ (test : Train → Bool). any test ts) (fun_ext (λ 
 
 -- a train passes where one of its ends, head and rear, does
 pub either_end : (q : TrainQuery) (t : Train) → train_passes q t ≡ any (end_passes q t) (prefix 2 (t.head ∷ t.rear ∷ []))
-unfolding train_passes any prefix
+unfolding train_passes prefix
 either_end q t = rw or-false
 
 -- ---- the train with a number, looked for
