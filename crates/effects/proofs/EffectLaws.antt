@@ -13,7 +13,7 @@ use Rattle.lists.proofs.Tests.{told, and_no_r}
 use Rattle.rules.specs.declared.AuthorityNo.{AuthorityNo}
 use Rattle.rules.specs.declared.TrainNo.{TrainNo}
 use Rattle.rules.specs.declared.GateNo.{GateNo}
-use Rattle.rules.specs.declared.Kind.{Kind}
+use Rattle.rules.specs.declared.kind.Kind.{Kind}
 use Rattle.rules.specs.declared.Seven.{Seven}
 use Rattle.rules.specs.declared.Call.{Call}
 use Rattle.rules.specs.declared.Call.TheVariants.{Request, Move}

@@ -17,8 +17,8 @@ use Rattle.cells.specs.Cells.{difference, cell_fits, cell_line, cells_fit}
 use Rattle.cells.proofs.Cells.{number_fits, minus_fits, empty_fits, cell_line-length}
 use Rattle.portions.specs.Sets.{size, is_member, least, greatest}
 use Rattle.portions.proofs.Ends.{least_most, greatest_most}
-use Rattle.rules.specs.declared.Kind.{Kind}
-use Rattle.rules.specs.declared.Kind.TheVariants.{Lpa, Toa, Twa}
+use Rattle.rules.specs.declared.kind.Kind.{Kind}
+use Rattle.rules.specs.declared.kind.Kind.TheVariants.{Lpa, Toa, Twa}
 use Rattle.rules.specs.declared.Authority.{Authority}
 use Rattle.rules.specs.Board.{Board, kind_no, is_in_force, has_workers_on, authority_no}
 use Rattle.rules.specs.Call.{minute_of}

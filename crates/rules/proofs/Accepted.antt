@@ -1,4 +1,5 @@
 -- An accepted call: its fields are in their ranges and none of its own conditions holds. Assumes nothing.
+use Rattle.std.specs.Prelude.{Option, Some, None}
 use Prim.Native.Nat.{ℕ, zero, suc, ◌≤◌, ◌<◌}
 use mathlib.Core.Path.{◌≡◌, refl}
 use mathlib.Core.Bool.{true, false, not, ◌&&◌, false≢true}
@@ -11,7 +12,7 @@ use Rattle.lists.proofs.Tests.{told, not_no}
 use Rattle.lists.proofs.Search.{each_at}
 use Rattle.rules.specs.declared.Seven.{Seven}
 use Rattle.rules.specs.declared.Call.{Call}
-use Rattle.rules.specs.declared.Call.TheVariants.{NoSuchCall, BadField, Request, Withdraw, Agree, Block, Unblock, Grant, Clear, Reoccupy, HandOver, Fulfil, Continue, Move, Passed, Term, Join, BookOut, BookIn}
+use Rattle.rules.specs.declared.Call.TheVariants.{Request, Withdraw, Agree, Block, Unblock, Grant, Clear, Reoccupy, HandOver, Fulfil, Continue, Move, Passed, Term, Join, BookOut, BookIn}
 use Rattle.rules.specs.Board.{Board}
 use Rattle.rules.specs.Call.{Entry, between, is_new_paper, is_day, is_time, in_range, calls, no_entry, entry_of, is_call, named, in_form, in_ranges}
 use Rattle.rules.specs.Refusals.{◌when◌, own, conditions, answer}
@@ -19,28 +20,27 @@ use Rattle.rules.proofs.Answers.{NoneHolds, condition_at, at_none, accepted_none
 
 -- what the number and the ranges say: it is a call, its portions are in order and on the board, its gate is one of the board's, its day and time
 -- are those of a clock, its papers have numbers
-abbrev pub Ranges : Board → Call → Type 0
-Ranges b NoSuchCall = ⊥
-Ranges b BadField = ⊥
-Ranges b (Request kind first last officer) = (first ≤ last) × (last < b.portions)
-Ranges b (Withdraw n officer) = Unit {0}
-Ranges b (Agree toa twa officer) = Unit {0}
-Ranges b (Block g) = g.0 < length b.gates
-Ranges b (Unblock g) = g.0 < length b.gates
-Ranges b (Grant n officer) = Unit {0}
-Ranges b (Clear n officer) = Unit {0}
-Ranges b (Reoccupy n officer) = Unit {0}
-Ranges b (HandOver n out into) = Unit {0}
-Ranges b (Fulfil n officer assurances) = Unit {0}
-Ranges b (Continue old new officer_old officer_new) = Unit {0}
-Ranges b (Move t g n officer) = g.0 < length b.gates
-Ranges b (Passed t) = Unit {0}
-Ranges b (Term n day time length) = (is_day day ≡ true) × (is_time time ≡ true)
-Ranges b (Join twa toa officer distance) = Unit {0}
-Ranges b (BookOut g paper) = (g.0 < length b.gates) × (1 ≤ paper.0)
-Ranges b (BookIn g paper certified new) = (g.0 < length b.gates) × (1 ≤ paper.0) × (certified ≡ false → 1 ≤ new.0)
+abbrev pub Ranges : Board → Option Call → Type 0
+Ranges b None = ⊥
+Ranges b (Some (Request kind first last officer)) = (first ≤ last) × (last < b.portions)
+Ranges b (Some (Withdraw n officer)) = Unit {0}
+Ranges b (Some (Agree toa twa officer)) = Unit {0}
+Ranges b (Some (Block g)) = g.0 < length b.gates
+Ranges b (Some (Unblock g)) = g.0 < length b.gates
+Ranges b (Some (Grant n officer)) = Unit {0}
+Ranges b (Some (Clear n officer)) = Unit {0}
+Ranges b (Some (Reoccupy n officer)) = Unit {0}
+Ranges b (Some (HandOver n out into)) = Unit {0}
+Ranges b (Some (Fulfil n officer assurances)) = Unit {0}
+Ranges b (Some (Continue old new officer_old officer_new)) = Unit {0}
+Ranges b (Some (Move t g n officer)) = g.0 < length b.gates
+Ranges b (Some (Passed t)) = Unit {0}
+Ranges b (Some (Term n day time length)) = (is_day day ≡ true) × (is_time time ≡ true)
+Ranges b (Some (Join twa toa officer distance)) = Unit {0}
+Ranges b (Some (BookOut g paper)) = (g.0 < length b.gates) × (1 ≤ paper.0)
+Ranges b (Some (BookIn g paper certified new)) = (g.0 < length b.gates) × (1 ≤ paper.0) × (certified ≡ false → 1 ≤ new.0)
 
-pub record Accepted (b : Board) (s : Seven) (c : Call) : Type 0 where
+pub record Accepted (b : Board) (s : Seven) (c : Option Call) : Type 0 where
   pub ranges : Ranges b c
   -- for a GRANT, `ok 12` says that no train touches the limits
   pub ok : (n : ℕ) → condition_at n (own b s c) ≡ false

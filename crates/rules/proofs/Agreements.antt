@@ -1,5 +1,6 @@
 -- Recorded agreements (02, order 7): "HAND OVER, CLEAR, REOCCUPY and the other authority's ending keep the recorded number.", and after every list of
 -- calls it is the one reckoned from the calls and answers alone. Assumes nothing.
+use Rattle.std.specs.Prelude.{Some}
 use Prim.Native.Nat.{ℕ}
 use mathlib.Core.Path.{◌≡◌, refl, sym, ap, ◌∙◌}
 use mathlib.Core.Bool.{Bool, true, false, ◌&&◌, and-false}
@@ -56,29 +57,29 @@ module _ (b : Board) (o : Once b) (s : Seven) (room n : ℕ) (l : live b n ≡ t
       (held, ap (λ (x : Authority). x.agreed.0) same ∙ ap (λ (x : AuthorityNo). x.0) (k.agreement (or_no _ false not-agreed refl)))
 
   -- "HAND OVER, CLEAR, REOCCUPY [..] keep the recorded number": of the one that they name, and of any other
-  pub hand_over_keeps : (m : AuthorityNo) (out into : ℕ) → named s ≡ HandOver m out into → KeepsNumber
+  pub hand_over_keeps : (m : AuthorityNo) (out into : ℕ) → named s ≡ Some (HandOver m out into) → KeepsNumber
   unfolding ends agrees
   hand_over_keeps m out into e = call_keeps (ap (ends n) e) (ap (agrees n) e)
 
-  pub clear_keeps : (m : AuthorityNo) (officer : ℕ) → named s ≡ Clear m officer → KeepsNumber
+  pub clear_keeps : (m : AuthorityNo) (officer : ℕ) → named s ≡ Some (Clear m officer) → KeepsNumber
   unfolding ends agrees
   clear_keeps m officer e = call_keeps (ap (ends n) e) (ap (agrees n) e)
 
-  pub reoccupy_keeps : (m : AuthorityNo) (officer : ℕ) → named s ≡ Reoccupy m officer → KeepsNumber
+  pub reoccupy_keeps : (m : AuthorityNo) (officer : ℕ) → named s ≡ Some (Reoccupy m officer) → KeepsNumber
   unfolding ends agrees
   reoccupy_keeps m officer e = call_keeps (ap (ends n) e) (ap (agrees n) e)
 
   -- "and the other authority's ending": whichever other it is
-  pub withdraw_keeps : (m : AuthorityNo) (officer : ℕ) → named s ≡ Withdraw m officer → (n ≡ m.0 → ⊥) → KeepsNumber
+  pub withdraw_keeps : (m : AuthorityNo) (officer : ℕ) → named s ≡ Some (Withdraw m officer) → (n ≡ m.0 → ⊥) → KeepsNumber
   unfolding ends agrees
   withdraw_keeps m officer e other = call_keeps (ap (ends n) e ∙ ne_eqb n m.0 other) (ap (agrees n) e)
 
-  pub fulfil_keeps : (m : AuthorityNo) (officer assurances : ℕ) → named s ≡ Fulfil m officer assurances → (n ≡ m.0 → ⊥) → KeepsNumber
+  pub fulfil_keeps : (m : AuthorityNo) (officer assurances : ℕ) → named s ≡ Some (Fulfil m officer assurances) → (n ≡ m.0 → ⊥) → KeepsNumber
   unfolding ends agrees
   fulfil_keeps m officer assurances e other = call_keeps (ap (ends n) e ∙ ne_eqb n m.0 other) (ap (agrees n) e)
 
   -- of the new one too: after CONTINUE it has its own, and not old's
-  pub continue_keeps : (old new : AuthorityNo) (officer_old officer_new : ℕ) → named s ≡ Continue old new officer_old officer_new → (n ≡ old.0 → ⊥) → KeepsNumber
+  pub continue_keeps : (old new : AuthorityNo) (officer_old officer_new : ℕ) → named s ≡ Some (Continue old new officer_old officer_new) → (n ≡ old.0 → ⊥) → KeepsNumber
   unfolding ends agrees
   continue_keeps old new officer_old officer_new e other = call_keeps (ap (ends n) e ∙ ne_eqb n old.0 other) (ap (agrees n) e)
 

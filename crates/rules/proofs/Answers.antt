@@ -1,5 +1,6 @@
 -- Demands 1 and 2 of the rules: "the lowest number whose condition holds is given", accepted exactly where no condition holds, and
 -- what a refused call leaves; and the greatest answer. Assumes nothing.
+use Rattle.std.specs.Prelude.{Option, Some, None}
 use Prim.Native.Nat.{ℕ, ◌≤◌, ◌<◌}
 use native.Mathlib.Omega.{arith}
 use mathlib.Core.Path.{◌≡◌, refl, sym, ap, ◌∙◌}
@@ -14,7 +15,7 @@ use Rattle.lists.proofs.Tests.{and_l, and_r}
 use Rattle.lists.proofs.Search.{Member}
 use Rattle.rules.specs.declared.Seven.{Seven}
 use Rattle.rules.specs.declared.Call.{Call}
-use Rattle.rules.specs.declared.Call.TheVariants.{NoSuchCall, BadField, Request, Withdraw, Agree, Block, Unblock, Grant, Clear, Reoccupy, HandOver, Fulfil, Continue, Move, Passed, Term, Join, BookOut, BookIn}
+use Rattle.rules.specs.declared.Call.TheVariants.{Request, Withdraw, Agree, Block, Unblock, Grant, Clear, Reoccupy, HandOver, Fulfil, Continue, Move, Passed, Term, Join, BookOut, BookIn}
 use Rattle.rules.specs.Board.{Board}
 use Rattle.rules.specs.Call.{named}
 use Rattle.rules.specs.Refusals.{Refusal, lowest, own, conditions, answer}
@@ -32,27 +33,26 @@ unfoldable pub ascends : ℕ → List Refusal → Bool
 ascends n [] = leb n greatest
 ascends n (r ∷ rs) = ltb n r.number && ascends r.number rs
 
-own-ascends : (b : Board) (s : Seven) (c : Call) → ascends 4 (own b s c) ≡ true
+own-ascends : (b : Board) (s : Seven) (c : Option Call) → ascends 4 (own b s c) ≡ true
 unfolding ascends own
-own-ascends b s NoSuchCall = refl
-own-ascends b s BadField = refl
-own-ascends b s (Request kind first last officer) = refl
-own-ascends b s (Withdraw n officer) = refl
-own-ascends b s (Agree toa twa officer) = refl
-own-ascends b s (Block g) = refl
-own-ascends b s (Unblock g) = refl
-own-ascends b s (Grant n officer) = refl
-own-ascends b s (Clear n officer) = refl
-own-ascends b s (Reoccupy n officer) = refl
-own-ascends b s (HandOver n out into) = refl
-own-ascends b s (Fulfil n officer assurances) = refl
-own-ascends b s (Continue old new officer_old officer_new) = refl
-own-ascends b s (Move t g n officer) = refl
-own-ascends b s (Passed t) = refl
-own-ascends b s (Term n day time length) = refl
-own-ascends b s (Join twa toa officer distance) = refl
-own-ascends b s (BookOut g paper) = refl
-own-ascends b s (BookIn g paper certified new) = refl
+own-ascends b s None = refl
+own-ascends b s (Some (Request kind first last officer)) = refl
+own-ascends b s (Some (Withdraw n officer)) = refl
+own-ascends b s (Some (Agree toa twa officer)) = refl
+own-ascends b s (Some (Block g)) = refl
+own-ascends b s (Some (Unblock g)) = refl
+own-ascends b s (Some (Grant n officer)) = refl
+own-ascends b s (Some (Clear n officer)) = refl
+own-ascends b s (Some (Reoccupy n officer)) = refl
+own-ascends b s (Some (HandOver n out into)) = refl
+own-ascends b s (Some (Fulfil n officer assurances)) = refl
+own-ascends b s (Some (Continue old new officer_old officer_new)) = refl
+own-ascends b s (Some (Move t g n officer)) = refl
+own-ascends b s (Some (Passed t)) = refl
+own-ascends b s (Some (Term n day time length)) = refl
+own-ascends b s (Some (Join twa toa officer distance)) = refl
+own-ascends b s (Some (BookOut g paper)) = refl
+own-ascends b s (Some (BookIn g paper certified new)) = refl
 
 -- THEOREM: the conditions of every call are listed in ascending order, from 1 on, so the first that holds is the lowest
 pub ascending : (b : Board) (s : Seven) (room : ℕ) → ascends 0 (conditions b s room) ≡ true

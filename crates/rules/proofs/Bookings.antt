@@ -1,6 +1,7 @@
 -- Bookings (02, order 6): "Limits in force stay protected through both calls." After every list of calls, on a board opened from any plan text,
 -- each gate that an authority in force needs is blocked and can be blocked, and no call that is accepted restores it; only plain automatic signals
 -- are out; and what BOOK OUT and BOOK IN record. Assumes nothing.
+use Rattle.std.specs.Prelude.{Option, Some, None}
 use Prim.Native.Nat.{ℕ, zero, suc, ◌≤◌, ◌<◌}
 use native.Mathlib.Omega.{arith}
 use native.Mathlib.Decide.{ℕ_discrete}
@@ -22,7 +23,7 @@ use Rattle.rules.specs.declared.Gate.{Gate}
 use Rattle.rules.specs.declared.Booking.{Booking}
 use Rattle.rules.specs.declared.Seven.{Seven}
 use Rattle.rules.specs.declared.Call.{Call}
-use Rattle.rules.specs.declared.Call.TheVariants.{NoSuchCall, BadField, Request, Withdraw, Agree, Block, Unblock, Grant, Clear, Reoccupy, HandOver, Fulfil, Continue, Move, Passed, Term, Join, BookOut, BookIn}
+use Rattle.rules.specs.declared.Call.TheVariants.{Request, Withdraw, Agree, Block, Unblock, Grant, Clear, Reoccupy, HandOver, Fulfil, Continue, Move, Passed, Term, Join, BookOut, BookIn}
 use Rattle.rules.specs.Board.{Board, opened, no_booking, gate_at, booking_at, is_out, is_plain, can_be_blocked, with_blocks, with_bookings, with_stamp}
 use Rattle.rules.specs.Call.{named}
 use Rattle.rules.specs.Refusals.{not_booked, restores_blocked, own, answer}
@@ -119,31 +120,30 @@ is_out_lem b g paper h e =
     let same : (booking_at b.bookings g).paper.0 ≡ paper = eqb-true (booking_at b.bookings g).paper.0 paper (not_no _ e) in
     some_paper (booking_at b.bookings g).paper.0 (omega arith)
 
-booked_effect : (b : Board) → Booked b → (s : Seven) (c : Call) → Accepted b s c → Booked (effect b c)
+booked_effect : (b : Board) → Booked b → (s : Seven) (c : Option Call) → Accepted b s c → Booked (effect b c)
 unfolding effect own condition_at restores_blocked
-booked_effect b B s NoSuchCall k = B
-booked_effect b B s BadField k = B
-booked_effect b B s (Request kind first last officer) k = booked_still b _ refl refl refl B
-booked_effect b B s (Withdraw n officer) k = booked_still b _ refl refl refl B
-booked_effect b B s (Agree toa twa officer) k = booked_still b _ refl refl refl B
-booked_effect b B s (Block g) k = booked_block b B g.0 (not_no _ (k.ok 10))
-booked_effect b B s (Unblock g) k = booked_unblock b B g.0
-booked_effect b B s (Grant n officer) k = booked_still b _ refl refl refl B
-booked_effect b B s (Clear n officer) k = booked_still b _ refl refl refl B
-booked_effect b B s (Reoccupy n officer) k = booked_still b _ refl refl refl B
-booked_effect b B s (HandOver n out into) k = booked_still b _ refl refl refl B
-booked_effect b B s (Fulfil n officer assurances) k = booked_still b _ refl refl refl B
-booked_effect b B s (Continue old new officer_old officer_new) k = booked_still b _ refl refl refl B
-booked_effect b B s (Move t g n officer) k = booked_still b _ refl refl refl B
-booked_effect b B s (Passed t) k = booked_still b _ refl refl refl B
-booked_effect b B s (Term n day time length) k = booked_still b _ refl refl refl B
-booked_effect b B s (Join twa toa officer distance) k = booked_still b _ refl refl refl B
-booked_effect b B s (BookOut g paper) k =
+booked_effect b B s None k = B
+booked_effect b B s (Some (Request kind first last officer)) k = booked_still b _ refl refl refl B
+booked_effect b B s (Some (Withdraw n officer)) k = booked_still b _ refl refl refl B
+booked_effect b B s (Some (Agree toa twa officer)) k = booked_still b _ refl refl refl B
+booked_effect b B s (Some (Block g)) k = booked_block b B g.0 (not_no _ (k.ok 10))
+booked_effect b B s (Some (Unblock g)) k = booked_unblock b B g.0
+booked_effect b B s (Some (Grant n officer)) k = booked_still b _ refl refl refl B
+booked_effect b B s (Some (Clear n officer)) k = booked_still b _ refl refl refl B
+booked_effect b B s (Some (Reoccupy n officer)) k = booked_still b _ refl refl refl B
+booked_effect b B s (Some (HandOver n out into)) k = booked_still b _ refl refl refl B
+booked_effect b B s (Some (Fulfil n officer assurances)) k = booked_still b _ refl refl refl B
+booked_effect b B s (Some (Continue old new officer_old officer_new)) k = booked_still b _ refl refl refl B
+booked_effect b B s (Some (Move t g n officer)) k = booked_still b _ refl refl refl B
+booked_effect b B s (Some (Passed t)) k = booked_still b _ refl refl refl B
+booked_effect b B s (Some (Term n day time length)) k = booked_still b _ refl refl refl B
+booked_effect b B s (Some (Join twa toa officer distance)) k = booked_still b _ refl refl refl B
+booked_effect b B s (Some (BookOut g paper)) k =
     booked_set b g.0 (booked_out paper) B k.ranges.0 (not_no _ (k.ok 10)) (λ e. some_paper paper.0 k.ranges.1)
 -- 25: a gate whose block is on is not restored
-booked_effect b B s (BookIn g paper true new) k =
+booked_effect b B s (Some (BookIn g paper true new)) k =
     booked_set b g.0 no_booking B k.ranges.0 (B.plain g.0 (is_out_lem b g.0 paper.0 k.ranges.1 (k.ok 5))) (λ e. clash e (k.ok 25))
-booked_effect b B s (BookIn g paper false new) k =
+booked_effect b B s (Some (BookIn g paper false new)) k =
     booked_set b g.0 (booked_in paper false new) B k.ranges.0 (B.plain g.0 (is_out_lem b g.0 paper.0 k.ranges.1 (k.ok 5)))
     (λ e. some_paper new.0 (k.ranges.2 refl))
 
@@ -211,23 +211,23 @@ module _ (text : List ℕ) (ms : List Made) where
 
   -- THEOREM, order 6: a needed gate that is blocked can't be restored: after any list of calls no BOOK IN that would restore it is accepted
   pub needed_not_restored : (n : ℕ) (g : GateNo) → NeededBy gates A n g.0 → (s : Seven) (room : ℕ) (paper new : PaperNo)
-      → named s ≡ BookIn g paper true new → answer b s room ≡ 0 → ⊥
+      → named s ≡ Some (BookIn g paper true new) → answer b s room ≡ 0 → ⊥
   unfolding own condition_at restores_blocked
   needed_not_restored n g h s room paper new is e =
-      let k : Accepted b s (BookIn g paper true new) = subst (Accepted b s) is (accepted b s room e) in
+      let k : Accepted b s (Some (BookIn g paper true new)) = subst (Accepted b s) is (accepted b s room e) in
       clash (limits_protected n g.0 h).0 (k.ok 25)
 
 -- ---- what BOOK OUT and BOOK IN record, and 5
 
 module _ (b : Board) (B : Booked b) (s : Seven) where
   -- the gate's booking is the call's; those of the others stay
-  pub books_out : (g : GateNo) (paper : PaperNo) → Accepted b s (BookOut g paper)
-      → booking_at (effect b (BookOut g paper)).bookings g.0 ≡ booked_out paper
+  pub books_out : (g : GateNo) (paper : PaperNo) → Accepted b s (Some (BookOut g paper))
+      → booking_at (effect b (Some (BookOut g paper))).bookings g.0 ≡ booked_out paper
   unfolding effect
   books_out g paper k = get_or-set_same b.bookings g.0 (booked_out paper) no_booking (omega (arith, B.places, k.ranges.0))
 
-  pub books_in : (g : GateNo) (paper : PaperNo) (certified : Bool) (new : PaperNo) → Accepted b s (BookIn g paper certified new)
-      → booking_at (effect b (BookIn g paper certified new)).bookings g.0 ≡ booked_in paper certified new
+  pub books_in : (g : GateNo) (paper : PaperNo) (certified : Bool) (new : PaperNo) → Accepted b s (Some (BookIn g paper certified new))
+      → booking_at (effect b (Some (BookIn g paper certified new))).bookings g.0 ≡ booked_in paper certified new
   unfolding effect
   books_in g paper certified new k =
       get_or-set_same b.bookings g.0 (booked_in paper certified new) no_booking (omega (arith, B.places, k.ranges.0))

@@ -11,8 +11,8 @@ use Rattle.lists.specs.Order.{Ascending}
 use Rattle.lists.proofs.Search.{Member}
 use Rattle.lists.proofs.Order.{Above}
 use Rattle.rules.specs.declared.Authority.{Authority}
-use Rattle.rules.specs.declared.Kind.{Kind}
-use Rattle.rules.specs.declared.Kind.TheVariants.{Lpa, Toa, Twa}
+use Rattle.rules.specs.declared.kind.Kind.{Kind}
+use Rattle.rules.specs.declared.kind.Kind.TheVariants.{Lpa, Toa, Twa}
 use Rattle.rules.specs.Call.{kind_of}
 use Rattle.rules.specs.Board.{Board, kind_no, is_lpa, is_toa, is_twa, authority_no, train_no, SameAuthority, InOrder, Same}
 use Rattle.rules.specs.Step.{Once}

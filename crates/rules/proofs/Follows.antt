@@ -14,8 +14,8 @@ use Rattle.portions.specs.Sets.{has}
 use Rattle.rules.specs.declared.Authority.{Authority}
 use Rattle.rules.specs.declared.Train.{Train}
 use Rattle.rules.specs.declared.Booking.{Booking}
-use Rattle.rules.specs.declared.Kind.{Kind}
-use Rattle.rules.specs.declared.Kind.TheVariants.{Lpa, Toa, Twa}
+use Rattle.rules.specs.declared.kind.Kind.{Kind}
+use Rattle.rules.specs.declared.kind.Kind.TheVariants.{Lpa, Toa, Twa}
 use Rattle.rules.specs.Board.{Board, no_authority, no_train, is_in_force, has_workers_on, authority_no, train_no, is_authority, is_train, is_not_authority, is_not_train, live, authority, on_board, train, with_authorities, with_trains, with_bookings, with_stamp, amended, ended, moved, gone}
 use Rattle.rules.specs.Reckoning as Reckoning
 use Rattle.rules.specs.Reckoning.{Reckoned, Position, agreement, put, as_ended}

@@ -1,5 +1,6 @@
 -- Demand 3, call by call: the calls that put an authority in force or its workers on (GRANT, REOCCUPY, CONTINUE), by what 11, 12 and 13
 -- tell. Assumes nothing.
+use Rattle.std.specs.Prelude.{Some}
 use Prim.Native.Nat.{ℕ, suc, ◌<◌}
 use native.Mathlib.Omega.{arith}
 use mathlib.Core.Path.{◌≡◌, refl, sym, ap, subst, ◌∙◌}
@@ -15,7 +16,7 @@ use Rattle.lists.proofs.Distinct.{taken_change}
 use Rattle.portions.specs.Sets.{has, shares}
 use Rattle.portions.proofs.Laws.{shares_some}
 use Rattle.rules.specs.declared.AuthorityNo.{AuthorityNo}
-use Rattle.rules.specs.declared.Kind.TheVariants.{Twa}
+use Rattle.rules.specs.declared.kind.Kind.TheVariants.{Twa}
 use Rattle.rules.specs.declared.Authority.{Authority}
 use Rattle.rules.specs.declared.Train.{Train}
 use Rattle.rules.specs.declared.Seven.{Seven}
@@ -105,7 +106,7 @@ held_granted since x a h = held_anew x (as_forced since x) a (granted a) h refl 
 module _ (b : Board) (r : Reckoning.Reckoning) (F : Follows b r) (S : Safe b.gates r) (s : Seven) where
   -- ---- GRANT
 
-  pub keeps_grant : (n : AuthorityNo) (officer : ℕ) → Accepted b s (Grant n officer) → Keeps b r (Grant n officer)
+  pub keeps_grant : (n : AuthorityNo) (officer : ℕ) → Accepted b s (Some (Grant n officer)) → Keeps b r (Some (Grant n officer))
   unfolding effect reckon own condition_at
   keeps_grant n officer ok = record {
     follows =
@@ -135,7 +136,7 @@ module _ (b : Board) (r : Reckoning.Reckoning) (F : Follows b r) (S : Safe b.gat
 
   -- ---- REOCCUPY
 
-  pub keeps_reoccupy : (n : AuthorityNo) (officer : ℕ) → Accepted b s (Reoccupy n officer) → Keeps b r (Reoccupy n officer)
+  pub keeps_reoccupy : (n : AuthorityNo) (officer : ℕ) → Accepted b s (Some (Reoccupy n officer)) → Keeps b r (Some (Reoccupy n officer))
   unfolding effect reckon own condition_at
   keeps_reoccupy n officer ok = record {
     follows =
@@ -242,8 +243,8 @@ module _ (b : Board) (r : Reckoning.Reckoning) (F : Follows b r) (old : ℕ) (ne
   }
 
 module _ (b : Board) (r : Reckoning.Reckoning) (F : Follows b r) (S : Safe b.gates r) (s : Seven) where
-  pub keeps_continue : (old new : AuthorityNo) (officer_old officer_new : ℕ) → Accepted b s (Continue old new officer_old officer_new)
-      → Keeps b r (Continue old new officer_old officer_new)
+  pub keeps_continue : (old new : AuthorityNo) (officer_old officer_new : ℕ) → Accepted b s (Some (Continue old new officer_old officer_new))
+      → Keeps b r (Some (Continue old new officer_old officer_new))
   unfolding effect reckon own condition_at
   keeps_continue old new officer_old officer_new ok = record {
     follows =

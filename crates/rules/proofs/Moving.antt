@@ -1,4 +1,5 @@
 -- Demand 3, call by call: the calls that move trains (MOVE, PASSED), by what 14, 17 and 19 tell. Assumes nothing.
+use Rattle.std.specs.Prelude.{Some}
 use Prim.Native.Nat.{ℕ}
 use native.Mathlib.Decide.{ℕ_discrete}
 use mathlib.Core.Path.{◌≡◌, refl, sym, ap, subst, ◌∙◌}
@@ -15,8 +16,8 @@ use Rattle.portions.specs.Sets.{has}
 use Rattle.rules.specs.declared.AuthorityNo.{AuthorityNo}
 use Rattle.rules.specs.declared.TrainNo.{TrainNo}
 use Rattle.rules.specs.declared.GateNo.{GateNo}
-use Rattle.rules.specs.declared.Kind.{Kind}
-use Rattle.rules.specs.declared.Kind.TheVariants.{Twa}
+use Rattle.rules.specs.declared.kind.Kind.{Kind}
+use Rattle.rules.specs.declared.kind.Kind.TheVariants.{Twa}
 use Rattle.rules.specs.declared.Gate.{Gate}
 use Rattle.rules.specs.declared.Authority.{Authority}
 use Rattle.rules.specs.declared.Train.{Train}
@@ -129,7 +130,7 @@ module _ (b : Board) (r : Reckoning.Reckoning) (F : Follows b r) (S : Safe b.gat
   module _ (s : Seven) where
     -- ---- MOVE
 
-    pub keeps_move : (t : TrainNo) (g : GateNo) (n : AuthorityNo) (officer : ℕ) → Accepted b s (Move t g n officer) → Keeps b r (Move t g n officer)
+    pub keeps_move : (t : TrainNo) (g : GateNo) (n : AuthorityNo) (officer : ℕ) → Accepted b s (Some (Move t g n officer)) → Keeps b r (Some (Move t g n officer))
     unfolding effect reckon own condition_at not_there on_board not_piloted
     keeps_move t g n officer ok = record {
       follows =
@@ -220,7 +221,7 @@ module _ (b : Board) (r : Reckoning.Reckoning) (F : Follows b r) (S : Safe b.gat
 
     -- ---- PASSED
 
-    pub keeps_passed : (t : TrainNo) → Accepted b s (Passed t) → Keeps b r (Passed t)
+    pub keeps_passed : (t : TrainNo) → Accepted b s (Some (Passed t)) → Keeps b r (Some (Passed t))
     unfolding effect reckon own condition_at
     keeps_passed t ok = record {
       follows =

@@ -1,5 +1,6 @@
 -- On every board that opening and calls return, live authorities and trains are held by ascending number, so each once, at most 32 of each, and
 -- numbers are those allotted, 1 to 9999 at most. Assumes nothing.
+use Rattle.std.specs.Prelude.{Option, Some, None}
 use Prim.Native.Nat.{ℕ, suc, ◌≤◌, ◌<◌}
 use native.Mathlib.Omega.{arith}
 use mathlib.Core.Path.{◌≡◌, refl, sym, ap, subst}
@@ -24,7 +25,7 @@ use Rattle.rules.specs.declared.Authority.{Authority}
 use Rattle.rules.specs.declared.Train.{Train}
 use Rattle.rules.specs.declared.Seven.{Seven}
 use Rattle.rules.specs.declared.Call.{Call}
-use Rattle.rules.specs.declared.Call.TheVariants.{NoSuchCall, BadField, Request, Withdraw, Agree, Block, Unblock, Grant, Clear, Reoccupy, HandOver, Fulfil, Continue, Move, Passed, Term, Join, BookOut, BookIn}
+use Rattle.rules.specs.declared.Call.TheVariants.{Request, Withdraw, Agree, Block, Unblock, Grant, Clear, Reoccupy, HandOver, Fulfil, Continue, Move, Passed, Term, Join, BookOut, BookIn}
 use Rattle.rules.specs.Board.{Board, opened, is_outside, gate_at, authority_no, train_no, is_authority, is_train, is_not_authority, is_not_train, authority, on_board, train, with_authorities, with_trains, with_blocks, with_bookings, amended, ended, moved, gone}
 use Rattle.rules.specs.Call.{minute_of, named}
 use Rattle.rules.specs.Refusals.{own, full, no_room, not_there, answer}
@@ -132,34 +133,33 @@ once_passed b o n false = once_change-trains b o (is_train n) with_rear_in (λ t
 once_beside : (b : Board) (o : Once b) (blocks : ℕ) (bookings : List Booking) → Once (with_bookings bookings (with_blocks blocks b))
 once_beside b o blocks bookings = record { authorities = o.authorities; trains = o.trains; live = o.live; running = o.running; last = o.last; allotted = o.allotted }
 
-once_effect : (b : Board) (o : Once b) (s : Seven) (c : Call) → Accepted b s c → Once (effect b c)
+once_effect : (b : Board) (o : Once b) (s : Seven) (c : Option Call) → Accepted b s c → Once (effect b c)
 unfolding effect own condition_at
-once_effect b o s NoSuchCall k = o
-once_effect b o s BadField k = o
-once_effect b o s (Request kind first last officer) k = once_request b o (requested (suc b.last) kind (run first last) officer) (k.ok 9) refl
-once_effect b o s (Withdraw n officer) k = once_keep b o (is_not_authority n.0)
-once_effect b o s (Agree toa twa officer) k = once_change b o (is_authority twa.0) (with_agreed toa) (λ a. refl)
-once_effect b o s (Block g) k = once_beside b o _ b.bookings
-once_effect b o s (Unblock g) k = once_beside b o _ b.bookings
-once_effect b o s (Grant n officer) k = once_change b o (is_authority n.0) granted (λ a. refl)
-once_effect b o s (Clear n officer) k = once_change b o (is_authority n.0) (with_site false) (λ a. refl)
-once_effect b o s (Reoccupy n officer) k = once_change b o (is_authority n.0) (with_site true) (λ a. refl)
-once_effect b o s (HandOver n out into) k = once_change b o (is_authority n.0) (with_officer into) (λ a. refl)
-once_effect b o s (Fulfil n officer assurances) k =
+once_effect b o s None k = o
+once_effect b o s (Some (Request kind first last officer)) k = once_request b o (requested (suc b.last) kind (run first last) officer) (k.ok 9) refl
+once_effect b o s (Some (Withdraw n officer)) k = once_keep b o (is_not_authority n.0)
+once_effect b o s (Some (Agree toa twa officer)) k = once_change b o (is_authority twa.0) (with_agreed toa) (λ a. refl)
+once_effect b o s (Some (Block g)) k = once_beside b o _ b.bookings
+once_effect b o s (Some (Unblock g)) k = once_beside b o _ b.bookings
+once_effect b o s (Some (Grant n officer)) k = once_change b o (is_authority n.0) granted (λ a. refl)
+once_effect b o s (Some (Clear n officer)) k = once_change b o (is_authority n.0) (with_site false) (λ a. refl)
+once_effect b o s (Some (Reoccupy n officer)) k = once_change b o (is_authority n.0) (with_site true) (λ a. refl)
+once_effect b o s (Some (HandOver n out into)) k = once_change b o (is_authority n.0) (with_officer into) (λ a. refl)
+once_effect b o s (Some (Fulfil n officer assurances)) k =
     once_change-trains (with_authorities (ended n.0 b.authorities) b) (once_keep b o (is_not_authority n.0)) (is_with n.0) _ (λ t. refl)
-once_effect b o s (Continue old new officer_old officer_new) k =
+once_effect b o s (Some (Continue old new officer_old officer_new)) k =
     let b1 : Board = with_authorities (ended old.0 b.authorities) b in
     let b2 : Board = with_authorities (amended new.0 granted (ended old.0 b.authorities)) b in
     once_change-trains b2 (once_change b1 (once_keep b o (is_not_authority old.0)) (is_authority new.0) granted (λ a. refl)) (is_with old.0)
     (continued_with new (authority b new.0).limits) (λ t. refl)
-once_effect b o s (Move t g n officer) k =
+once_effect b o s (Some (Move t g n officer)) k =
     let gate : Gate = gate_at b.gates g.0 in
     once_move b o (entered t gate.to n) t.0 (with_head gate.to n) gate refl (λ x. refl) (k.ok 9) (k.ok 17) (is_outside gate.from) refl
-once_effect b o s (Passed t) k = once_passed b o t.0 (is_outside (train b t.0).head)
-once_effect b o s (Term n day time length) k = once_change b o (is_authority n.0) (with_term (minute_of day time) length) (λ a. refl)
-once_effect b o s (Join twa toa officer distance) k = once_change b o (is_authority toa.0) (with_agreed twa) (λ a. refl)
-once_effect b o s (BookOut g paper) k = once_beside b o b.blocks _
-once_effect b o s (BookIn g paper certified new) k = once_beside b o b.blocks _
+once_effect b o s (Some (Passed t)) k = once_passed b o t.0 (is_outside (train b t.0).head)
+once_effect b o s (Some (Term n day time length)) k = once_change b o (is_authority n.0) (with_term (minute_of day time) length) (λ a. refl)
+once_effect b o s (Some (Join twa toa officer distance)) k = once_change b o (is_authority toa.0) (with_agreed twa) (λ a. refl)
+once_effect b o s (Some (BookOut g paper)) k = once_beside b o b.blocks _
+once_effect b o s (Some (BookIn g paper certified new)) k = once_beside b o b.blocks _
 
 once_step : (b : Board) (s : Seven) (room : ℕ) → Once b → (z : Bool) → eqb (answer b s room) 0 ≡ z
     → Once (cond z (Rattle.rules.specs.Board.with_stamp s.day s.time (effect b (named s))) b)

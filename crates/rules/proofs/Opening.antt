@@ -1,5 +1,6 @@
 -- Opening: every text gives a freshly opened board of at most 64 portions and 64 gates, a refused one the closed board and 20; and the
 -- closed board accepts no call. Assumes nothing.
+use Rattle.std.specs.Prelude.{Option, Some, None}
 use Prim.Native.Nat.{ℕ, zero, suc, ◌≤◌}
 use native.Mathlib.Omega.{arith}
 use mathlib.Core.Path.{◌≡◌, refl, sym, ap}
@@ -12,7 +13,7 @@ use Rattle.lists.proofs.Tests.{told}
 use Rattle.rules.specs.declared.Gate.{Gate}
 use Rattle.rules.specs.declared.Seven.{Seven}
 use Rattle.rules.specs.declared.Call.{Call}
-use Rattle.rules.specs.declared.Call.TheVariants.{NoSuchCall, BadField, Request, Withdraw, Agree, Block, Unblock, Grant, Clear, Reoccupy, HandOver, Fulfil, Continue, Move, Passed, Term, Join, BookOut, BookIn}
+use Rattle.rules.specs.declared.Call.TheVariants.{Request, Withdraw, Agree, Block, Unblock, Grant, Clear, Reoccupy, HandOver, Fulfil, Continue, Move, Passed, Term, Join, BookOut, BookIn}
 use Rattle.rules.specs.Board.{Board, opened, closed, live, on_board}
 use Rattle.rules.specs.Call.{named}
 use Rattle.rules.specs.Refusals.{not_live, own, answer}
@@ -60,27 +61,26 @@ refused_plan text e = (rw e, rw e)
 -- ---- the closed board
 
 -- no call's conditions are all false on it: a field that names a portion or a gate is out of range, no authority is live, no train is on it
-closed_refuses : (s : Seven) (c : Call) → Accepted closed s c → ⊥
+closed_refuses : (s : Seven) (c : Option Call) → Accepted closed s c → ⊥
 unfolding closed opened own condition_at not_live live on_board
-closed_refuses s NoSuchCall k = k.ranges
-closed_refuses s BadField k = k.ranges
-closed_refuses s (Request kind first last officer) k = omega (arith, k.ranges)
-closed_refuses s (Withdraw n officer) k = false≢true (sym (k.ok 5))
-closed_refuses s (Agree toa twa officer) k = false≢true (sym (k.ok 5))
-closed_refuses s (Block g) k = omega (arith, k.ranges)
-closed_refuses s (Unblock g) k = omega (arith, k.ranges)
-closed_refuses s (Grant n officer) k = false≢true (sym (k.ok 5))
-closed_refuses s (Clear n officer) k = false≢true (sym (k.ok 5))
-closed_refuses s (Reoccupy n officer) k = false≢true (sym (k.ok 5))
-closed_refuses s (HandOver n out into) k = false≢true (sym (k.ok 5))
-closed_refuses s (Fulfil n officer assurances) k = false≢true (sym (k.ok 5))
-closed_refuses s (Continue old new officer_old officer_new) k = false≢true (sym (k.ok 5))
-closed_refuses s (Move t g n officer) k = omega (arith, k.ranges)
-closed_refuses s (Passed t) k = false≢true (sym (k.ok 17))
-closed_refuses s (Term n day time length) k = false≢true (sym (k.ok 5))
-closed_refuses s (Join twa toa officer distance) k = false≢true (sym (k.ok 5))
-closed_refuses s (BookOut g paper) k = omega (arith, k.ranges.0)
-closed_refuses s (BookIn g paper certified new) k = omega (arith, k.ranges.0)
+closed_refuses s None k = k.ranges
+closed_refuses s (Some (Request kind first last officer)) k = omega (arith, k.ranges)
+closed_refuses s (Some (Withdraw n officer)) k = false≢true (sym (k.ok 5))
+closed_refuses s (Some (Agree toa twa officer)) k = false≢true (sym (k.ok 5))
+closed_refuses s (Some (Block g)) k = omega (arith, k.ranges)
+closed_refuses s (Some (Unblock g)) k = omega (arith, k.ranges)
+closed_refuses s (Some (Grant n officer)) k = false≢true (sym (k.ok 5))
+closed_refuses s (Some (Clear n officer)) k = false≢true (sym (k.ok 5))
+closed_refuses s (Some (Reoccupy n officer)) k = false≢true (sym (k.ok 5))
+closed_refuses s (Some (HandOver n out into)) k = false≢true (sym (k.ok 5))
+closed_refuses s (Some (Fulfil n officer assurances)) k = false≢true (sym (k.ok 5))
+closed_refuses s (Some (Continue old new officer_old officer_new)) k = false≢true (sym (k.ok 5))
+closed_refuses s (Some (Move t g n officer)) k = omega (arith, k.ranges)
+closed_refuses s (Some (Passed t)) k = false≢true (sym (k.ok 17))
+closed_refuses s (Some (Term n day time length)) k = false≢true (sym (k.ok 5))
+closed_refuses s (Some (Join twa toa officer distance)) k = false≢true (sym (k.ok 5))
+closed_refuses s (Some (BookOut g paper)) k = omega (arith, k.ranges.0)
+closed_refuses s (Some (BookIn g paper certified new)) k = omega (arith, k.ranges.0)
 
 -- THEOREM: the closed board accepts no call, and so stays the closed board
 pub closed_accepts_none : (s : Seven) (room : ℕ) → answer closed s room ≡ 0 → ⊥

@@ -1,5 +1,6 @@
 -- Demand 3, call by call: the calls that put nothing more in force (REQUEST, WITHDRAW, HAND OVER, TERM, BOOK OUT, BOOK IN,
 -- AGREE, JOIN, BLOCK, UNBLOCK, CLEAR, FULFIL). Each keeps two things: the board follows the reckoning, and the reckoning is safe. Assumes nothing.
+use Rattle.std.specs.Prelude.{Option, Some}
 use Prim.Native.Nat.{ℕ, suc, ◌≤◌, ◌<◌}
 use native.Mathlib.Omega.{arith}
 use mathlib.Core.Path.{◌≡◌, refl, sym, ap, subst, ◌∙◌}
@@ -18,8 +19,8 @@ use Rattle.portions.proofs.Laws.{run_in, in_run, insert_below, remove_below, in_
 use Rattle.rules.specs.declared.AuthorityNo.{AuthorityNo}
 use Rattle.rules.specs.declared.GateNo.{GateNo}
 use Rattle.rules.specs.declared.PaperNo.{PaperNo}
-use Rattle.rules.specs.declared.Kind.{Kind}
-use Rattle.rules.specs.declared.Kind.TheVariants.{Lpa, Toa, Twa}
+use Rattle.rules.specs.declared.kind.Kind.{Kind}
+use Rattle.rules.specs.declared.kind.Kind.TheVariants.{Lpa, Toa, Twa}
 use Rattle.rules.specs.declared.Gate.{Gate}
 use Rattle.rules.specs.declared.Authority.{Authority}
 use Rattle.rules.specs.declared.Train.{Train}
@@ -54,7 +55,7 @@ twa_kind Toa e = absurd (false≢true e)
 twa_kind Twa e = refl
 
 -- what an accepted call keeps
-pub record Keeps (b : Board) (r : Reckoning.Reckoning) (c : Call) : Type 0 where
+pub record Keeps (b : Board) (r : Reckoning.Reckoning) (c : Option Call) : Type 0 where
   pub follows : Follows (effect b c) (reckon b.gates r c)
   pub safe : Safe b.gates (reckon b.gates r c)
 
@@ -126,7 +127,7 @@ held_sited x on a h = held_anew x (as_sited on x) a (with_site on a) h refl refl
 module _ (b : Board) (r : Reckoning.Reckoning) (F : Follows b r) (S : Safe b.gates r) (s : Seven) where
   -- ---- REQUEST
 
-  pub keeps_request : (kind : Kind) (first last officer : ℕ) → Accepted b s (Request kind first last officer) → Keeps b r (Request kind first last officer)
+  pub keeps_request : (kind : Kind) (first last officer : ℕ) → Accepted b s (Some (Request kind first last officer)) → Keeps b r (Some (Request kind first last officer))
   unfolding effect reckon
   keeps_request kind first last officer ok = record {
     follows =
@@ -211,7 +212,7 @@ module _ (b : Board) (r : Reckoning.Reckoning) (F : Follows b r) (S : Safe b.gat
 
   -- ---- WITHDRAW, HAND OVER, TERM, BOOK OUT and BOOK IN: nothing is reckoned
 
-  pub keeps_withdraw : (n : AuthorityNo) (officer : ℕ) → Accepted b s (Withdraw n officer) → Keeps b r (Withdraw n officer)
+  pub keeps_withdraw : (n : AuthorityNo) (officer : ℕ) → Accepted b s (Some (Withdraw n officer)) → Keeps b r (Some (Withdraw n officer))
   unfolding effect reckon own condition_at
   keeps_withdraw n officer ok = record {
     follows =
@@ -234,7 +235,7 @@ module _ (b : Board) (r : Reckoning.Reckoning) (F : Follows b r) (S : Safe b.gat
     safe = S;
   }
 
-  pub keeps_hand_over : (n : AuthorityNo) (out into : ℕ) → Keeps b r (HandOver n out into)
+  pub keeps_hand_over : (n : AuthorityNo) (out into : ℕ) → Keeps b r (Some (HandOver n out into))
   unfolding effect reckon
   keeps_hand_over n out into = record {
     follows =
@@ -243,7 +244,7 @@ module _ (b : Board) (r : Reckoning.Reckoning) (F : Follows b r) (S : Safe b.gat
     safe = S;
   }
 
-  pub keeps_term : (n : AuthorityNo) (day time length : ℕ) → Keeps b r (Term n day time length)
+  pub keeps_term : (n : AuthorityNo) (day time length : ℕ) → Keeps b r (Some (Term n day time length))
   unfolding effect reckon
   keeps_term n day time length = record {
     follows =
@@ -252,11 +253,11 @@ module _ (b : Board) (r : Reckoning.Reckoning) (F : Follows b r) (S : Safe b.gat
     safe = S;
   }
 
-  pub keeps_book_out : (g : GateNo) (paper : PaperNo) → Keeps b r (BookOut g paper)
+  pub keeps_book_out : (g : GateNo) (paper : PaperNo) → Keeps b r (Some (BookOut g paper))
   unfolding effect reckon
   keeps_book_out g paper = record { follows = follows_beside b r F b.day b.time (set b.bookings g.0 (booked_out paper)); safe = S }
 
-  pub keeps_book_in : (g : GateNo) (paper : PaperNo) (certified : Bool) (new : PaperNo) → Keeps b r (BookIn g paper certified new)
+  pub keeps_book_in : (g : GateNo) (paper : PaperNo) (certified : Bool) (new : PaperNo) → Keeps b r (Some (BookIn g paper certified new))
   unfolding effect reckon
   keeps_book_in g paper certified new = record {
     follows = follows_beside b r F b.day b.time (set b.bookings g.0 (booked_in paper certified new));
@@ -292,7 +293,7 @@ module _ (b : Board) (r : Reckoning.Reckoning) (F : Follows b r) (S : Safe b.gat
     pub safe_recorded : x.is_in_force ≡ y.is_in_force → Safe b.gates (reckoned_as r r.requests r.grants taker.0 x)
     safe_recorded fo = safe_quieter b.gates r S r.requests taker.0 x (λ f. absurd (pending b r F taker.0 live-taker waits (sym fo ∙ f)))
 
-  pub keeps_agree : (toa twa : AuthorityNo) (officer : ℕ) → Accepted b s (Agree toa twa officer) → Keeps b r (Agree toa twa officer)
+  pub keeps_agree : (toa twa : AuthorityNo) (officer : ℕ) → Accepted b s (Some (Agree toa twa officer)) → Keeps b r (Some (Agree toa twa officer))
   unfolding effect reckon own condition_at not_to_agree
   keeps_agree toa twa officer ok =
       let x : Reckoned = as_agreed toa.0 (r.authority twa.0) in
@@ -309,7 +310,7 @@ module _ (b : Board) (r : Reckoning.Reckoning) (F : Follows b r) (S : Safe b.gat
         safe = safe_recorded toa twa x l1 l2 waits gives refl;
       }
 
-  pub keeps_join : (twa toa : AuthorityNo) (officer distance : ℕ) → Accepted b s (Join twa toa officer distance) → Keeps b r (Join twa toa officer distance)
+  pub keeps_join : (twa toa : AuthorityNo) (officer distance : ℕ) → Accepted b s (Some (Join twa toa officer distance)) → Keeps b r (Some (Join twa toa officer distance))
   unfolding effect reckon own condition_at not_to_join
   keeps_join twa toa officer distance ok =
       let x : Reckoned = as_joined twa.0 (r.authority toa.0) in
@@ -328,7 +329,7 @@ module _ (b : Board) (r : Reckoning.Reckoning) (F : Follows b r) (S : Safe b.gat
 
   -- ---- CLEAR and FULFIL
 
-  pub keeps_clear : (n : AuthorityNo) (officer : ℕ) → Accepted b s (Clear n officer) → Keeps b r (Clear n officer)
+  pub keeps_clear : (n : AuthorityNo) (officer : ℕ) → Accepted b s (Some (Clear n officer)) → Keeps b r (Some (Clear n officer))
   unfolding effect reckon own condition_at
   keeps_clear n officer ok = record {
     follows =
@@ -340,7 +341,7 @@ module _ (b : Board) (r : Reckoning.Reckoning) (F : Follows b r) (S : Safe b.gat
         (λ f. record { force = f; kind = refl; first = refl; last = refl; since = refl; agreed = refl; joined = refl; site = λ e. absurd (false≢true e) });
   }
 
-  pub keeps_fulfil : (n : AuthorityNo) (officer assurances : ℕ) → Keeps b r (Fulfil n officer assurances)
+  pub keeps_fulfil : (n : AuthorityNo) (officer assurances : ℕ) → Keeps b r (Some (Fulfil n officer assurances))
   unfolding effect reckon
   keeps_fulfil n officer assurances = record {
     follows =
@@ -355,7 +356,7 @@ module _ (b : Board) (r : Reckoning.Reckoning) (F : Follows b r) (S : Safe b.gat
 
   -- ---- BLOCK and UNBLOCK
 
-  pub keeps_block : (g : GateNo) → Accepted b s (Block g) → Keeps b r (Block g)
+  pub keeps_block : (g : GateNo) → Accepted b s (Some (Block g)) → Keeps b r (Some (Block g))
   unfolding effect reckon
   keeps_block g ok = record {
     follows =
@@ -386,7 +387,7 @@ module _ (b : Board) (r : Reckoning.Reckoning) (F : Follows b r) (S : Safe b.gat
       more : (h : ℕ) → r.blocked h ≡ true → put g.0 true r.blocked h ≡ true
       more = put_all (λ (h : ℕ) (y : Bool). r.blocked h ≡ true → y ≡ true) g.0 true r.blocked (λ e. refl) (λ h ne e. e)
 
-  pub keeps_unblock : (g : GateNo) → Accepted b s (Unblock g) → Keeps b r (Unblock g)
+  pub keeps_unblock : (g : GateNo) → Accepted b s (Some (Unblock g)) → Keeps b r (Some (Unblock g))
   unfolding effect reckon own condition_at still_needed in_force_needs needs
   keeps_unblock g ok = record {
     follows =

@@ -1,5 +1,6 @@
 -- Demand 3: after every list of calls, with any seven numbers and any line buffer, accepted or refused, on a board opened from any plan
 -- text, what is reckoned from the calls and their answers is safe. One theorem about the whole list, `demand_3`. Assumes nothing.
+use Rattle.std.specs.Prelude.{Option, Some, None}
 use Prim.Native.Nat.{ℕ, ◌≤◌}
 use mathlib.Core.Path.{◌≡◌, refl, sym, subst}
 use mathlib.Core.Bool.{Bool, true, false, cond, false≢true}
@@ -12,7 +13,7 @@ use Rattle.portions.proofs.Bits.{has_none}
 use Rattle.rules.specs.declared.Gate.{Gate}
 use Rattle.rules.specs.declared.Seven.{Seven}
 use Rattle.rules.specs.declared.Call.{Call}
-use Rattle.rules.specs.declared.Call.TheVariants.{NoSuchCall, BadField, Request, Withdraw, Agree, Block, Unblock, Grant, Clear, Reoccupy, HandOver, Fulfil, Continue, Move, Passed, Term, Join, BookOut, BookIn}
+use Rattle.rules.specs.declared.Call.TheVariants.{Request, Withdraw, Agree, Block, Unblock, Grant, Clear, Reoccupy, HandOver, Fulfil, Continue, Move, Passed, Term, Join, BookOut, BookIn}
 use Rattle.rules.specs.Board.{Board, opened, with_stamp}
 use Rattle.rules.specs.Call.{named}
 use Rattle.rules.specs.Refusals.{answer}
@@ -31,49 +32,47 @@ use Rattle.rules.proofs.Moving.{keeps_move, keeps_passed}
 
 -- ---- any accepted call
 
-keeps : (b : Board) (r : Reckoning) → Follows b r → Safe b.gates r → (s : Seven) (c : Call) → Accepted b s c → Keeps b r c
-keeps b r F S s NoSuchCall k = absurd k.ranges
-keeps b r F S s BadField k = absurd k.ranges
-keeps b r F S s (Request kind first last officer) k = keeps_request b r F S s kind first last officer k
-keeps b r F S s (Withdraw n officer) k = keeps_withdraw b r F S s n officer k
-keeps b r F S s (Agree toa twa officer) k = keeps_agree b r F S s toa twa officer k
-keeps b r F S s (Block g) k = keeps_block b r F S s g k
-keeps b r F S s (Unblock g) k = keeps_unblock b r F S s g k
-keeps b r F S s (Grant n officer) k = keeps_grant b r F S s n officer k
-keeps b r F S s (Clear n officer) k = keeps_clear b r F S s n officer k
-keeps b r F S s (Reoccupy n officer) k = keeps_reoccupy b r F S s n officer k
-keeps b r F S s (HandOver n out into) k = keeps_hand_over b r F S s n out into
-keeps b r F S s (Fulfil n officer assurances) k = keeps_fulfil b r F S s n officer assurances
-keeps b r F S s (Continue old new officer_old officer_new) k = keeps_continue b r F S s old new officer_old officer_new k
-keeps b r F S s (Move t g n officer) k = keeps_move b r F S s t g n officer k
-keeps b r F S s (Passed t) k = keeps_passed b r F S s t k
-keeps b r F S s (Term n day time length) k = keeps_term b r F S s n day time length
-keeps b r F S s (Join twa toa officer distance) k = keeps_join b r F S s twa toa officer distance k
-keeps b r F S s (BookOut g paper) k = keeps_book_out b r F S s g paper
-keeps b r F S s (BookIn g paper certified new) k = keeps_book_in b r F S s g paper certified new
+keeps : (b : Board) (r : Reckoning) → Follows b r → Safe b.gates r → (s : Seven) (c : Option Call) → Accepted b s c → Keeps b r c
+keeps b r F S s None k = absurd k.ranges
+keeps b r F S s (Some (Request kind first last officer)) k = keeps_request b r F S s kind first last officer k
+keeps b r F S s (Some (Withdraw n officer)) k = keeps_withdraw b r F S s n officer k
+keeps b r F S s (Some (Agree toa twa officer)) k = keeps_agree b r F S s toa twa officer k
+keeps b r F S s (Some (Block g)) k = keeps_block b r F S s g k
+keeps b r F S s (Some (Unblock g)) k = keeps_unblock b r F S s g k
+keeps b r F S s (Some (Grant n officer)) k = keeps_grant b r F S s n officer k
+keeps b r F S s (Some (Clear n officer)) k = keeps_clear b r F S s n officer k
+keeps b r F S s (Some (Reoccupy n officer)) k = keeps_reoccupy b r F S s n officer k
+keeps b r F S s (Some (HandOver n out into)) k = keeps_hand_over b r F S s n out into
+keeps b r F S s (Some (Fulfil n officer assurances)) k = keeps_fulfil b r F S s n officer assurances
+keeps b r F S s (Some (Continue old new officer_old officer_new)) k = keeps_continue b r F S s old new officer_old officer_new k
+keeps b r F S s (Some (Move t g n officer)) k = keeps_move b r F S s t g n officer k
+keeps b r F S s (Some (Passed t)) k = keeps_passed b r F S s t k
+keeps b r F S s (Some (Term n day time length)) k = keeps_term b r F S s n day time length
+keeps b r F S s (Some (Join twa toa officer distance)) k = keeps_join b r F S s twa toa officer distance k
+keeps b r F S s (Some (BookOut g paper)) k = keeps_book_out b r F S s g paper
+keeps b r F S s (Some (BookIn g paper certified new)) k = keeps_book_in b r F S s g paper certified new
 
 -- the plan stays
-pub gates_stay : (b : Board) (c : Call) → (effect b c).gates ≡ b.gates
+pub gates_stay : (b : Board) (c : Option Call) → (effect b c).gates ≡ b.gates
 unfolding effect
-gates_stay b NoSuchCall = refl
-gates_stay b BadField = refl
-gates_stay b (Request kind first last officer) = refl
-gates_stay b (Withdraw n officer) = refl
-gates_stay b (Agree toa twa officer) = refl
-gates_stay b (Block g) = refl
-gates_stay b (Unblock g) = refl
-gates_stay b (Grant n officer) = refl
-gates_stay b (Clear n officer) = refl
-gates_stay b (Reoccupy n officer) = refl
-gates_stay b (HandOver n out into) = refl
-gates_stay b (Fulfil n officer assurances) = refl
-gates_stay b (Continue old new officer_old officer_new) = refl
-gates_stay b (Move t g n officer) = refl
-gates_stay b (Passed t) = refl
-gates_stay b (Term n day time length) = refl
-gates_stay b (Join twa toa officer distance) = refl
-gates_stay b (BookOut g paper) = refl
-gates_stay b (BookIn g paper certified new) = refl
+gates_stay b None = refl
+gates_stay b (Some (Request kind first last officer)) = refl
+gates_stay b (Some (Withdraw n officer)) = refl
+gates_stay b (Some (Agree toa twa officer)) = refl
+gates_stay b (Some (Block g)) = refl
+gates_stay b (Some (Unblock g)) = refl
+gates_stay b (Some (Grant n officer)) = refl
+gates_stay b (Some (Clear n officer)) = refl
+gates_stay b (Some (Reoccupy n officer)) = refl
+gates_stay b (Some (HandOver n out into)) = refl
+gates_stay b (Some (Fulfil n officer assurances)) = refl
+gates_stay b (Some (Continue old new officer_old officer_new)) = refl
+gates_stay b (Some (Move t g n officer)) = refl
+gates_stay b (Some (Passed t)) = refl
+gates_stay b (Some (Term n day time length)) = refl
+gates_stay b (Some (Join twa toa officer distance)) = refl
+gates_stay b (Some (BookOut g paper)) = refl
+gates_stay b (Some (BookIn g paper certified new)) = refl
 
 -- ---- a list of calls
 
@@ -88,7 +87,7 @@ list_step : (b : Board) (r : Reckoning) (m : Made) (ms : List Made)
     → let b' = cond z (with_stamp m.seven.day m.seven.time (effect b (named m.seven))) b in
     Holds b.gates (final b' ms) (reckoned b.gates (cond z (reckon b.gates r (named m.seven)) r) (trace b' ms))
 list_step b r m ms ih F S true e =
-    let c : Call = named m.seven in
+    let c : Option Call = named m.seven in
     let k : Keeps b r c = keeps b r F S m.seven c (accepted b m.seven m.room (eqb-true (answer b m.seven m.room) 0 e)) in
     let b' : Board = with_stamp m.seven.day m.seven.time (effect b c) in
     let r' : Reckoning = reckon b.gates r c in

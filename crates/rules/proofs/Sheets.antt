@@ -18,7 +18,7 @@ use Rattle.cells.specs.declared.Cell.TheVariants.{Empty, Number}
 use Rattle.cells.specs.Cells.{difference, marks, cell, cell_line}
 use Rattle.portions.specs.Sets.{has, set_of, run, size, least, greatest}
 use Rattle.portions.proofs.Ends.{least_is, greatest_is}
-use Rattle.rules.specs.declared.Kind.TheVariants.{Lpa, Toa, Twa}
+use Rattle.rules.specs.declared.kind.Kind.TheVariants.{Lpa, Toa, Twa}
 use Rattle.rules.specs.declared.Authority.{Authority}
 use Rattle.rules.specs.Board.{Board, no_authority, authority_no}
 use Rattle.rules.specs.Call.{authority_of, minute_of}

@@ -1,5 +1,6 @@
 -- What stays of an authority until it ends: it is in force if it was, with the term that it had (02, order 1: "An LPA past its end stays in force") and
 -- with the agreement that it has recorded (order 7). Assumes nothing.
+use Rattle.std.specs.Prelude.{Option, Some, None}
 use Prim.Native.Nat.{ℕ}
 use mathlib.Core.Path.{◌≡◌, refl, sym, ap, subst, ◌∙◌}
 use mathlib.Core.Bool.{Bool, true, false, cond, not, ◌&&◌, ◌||◌}
@@ -15,7 +16,7 @@ use Rattle.rules.specs.declared.AuthorityNo.{AuthorityNo}
 use Rattle.rules.specs.declared.Authority.{Authority}
 use Rattle.rules.specs.declared.Seven.{Seven}
 use Rattle.rules.specs.declared.Call.{Call}
-use Rattle.rules.specs.declared.Call.TheVariants.{NoSuchCall, BadField, Request, Withdraw, Agree, Block, Unblock, Grant, Clear, Reoccupy, HandOver, Fulfil, Continue, Move, Passed, Term, Join, BookOut, BookIn}
+use Rattle.rules.specs.declared.Call.TheVariants.{Request, Withdraw, Agree, Block, Unblock, Grant, Clear, Reoccupy, HandOver, Fulfil, Continue, Move, Passed, Term, Join, BookOut, BookIn}
 use Rattle.rules.specs.Board.{Board, is_in_force, has_term, authority_no, is_authority, is_not_authority, live, authority, with_stamp, ended}
 use Rattle.rules.specs.Call.{minute_of, named}
 use Rattle.rules.specs.Refusals.{not_live, not_to_agree, not_to_join, own, answer}
@@ -27,52 +28,50 @@ use Rattle.rules.proofs.Follows.{authority_there}
 use Rattle.rules.proofs.Once.{once_after, held_once}
 
 -- the call ends authority n: "It is live until withdrawn, fulfilled or continued as old"
-unfoldable pub ends : ℕ → Call → Bool
-ends n NoSuchCall = false
-ends n BadField = false
-ends n (Request kind first last officer) = false
-ends n (Withdraw m officer) = eqb n m.0
-ends n (Agree toa twa officer) = false
-ends n (Block g) = false
-ends n (Unblock g) = false
-ends n (Grant m officer) = false
-ends n (Clear m officer) = false
-ends n (Reoccupy m officer) = false
-ends n (HandOver m out into) = false
-ends n (Fulfil m officer assurances) = eqb n m.0
-ends n (Continue old new officer_old officer_new) = eqb n old.0
-ends n (Move t g m officer) = false
-ends n (Passed t) = false
-ends n (Term m day time length) = false
-ends n (Join twa toa officer distance) = false
-ends n (BookOut g paper) = false
-ends n (BookIn g paper certified new) = false
+unfoldable pub ends : ℕ → Option Call → Bool
+ends n None = false
+ends n (Some (Request kind first last officer)) = false
+ends n (Some (Withdraw m officer)) = eqb n m.0
+ends n (Some (Agree toa twa officer)) = false
+ends n (Some (Block g)) = false
+ends n (Some (Unblock g)) = false
+ends n (Some (Grant m officer)) = false
+ends n (Some (Clear m officer)) = false
+ends n (Some (Reoccupy m officer)) = false
+ends n (Some (HandOver m out into)) = false
+ends n (Some (Fulfil m officer assurances)) = eqb n m.0
+ends n (Some (Continue old new officer_old officer_new)) = eqb n old.0
+ends n (Some (Move t g m officer)) = false
+ends n (Some (Passed t)) = false
+ends n (Some (Term m day time length)) = false
+ends n (Some (Join twa toa officer distance)) = false
+ends n (Some (BookOut g paper)) = false
+ends n (Some (BookIn g paper certified new)) = false
 
 -- the call was accepted and ended authority n
 unfoldable pub ended_by : ℕ → Answered → Bool
 ended_by n c = eqb c.answer 0 && ends n (named c.seven)
 
 -- the call records an agreement with authority n: AGREE where it is the TWA, JOIN where it is the TOA
-unfoldable pub agrees : ℕ → Call → Bool
-agrees n NoSuchCall = false
-agrees n BadField = false
-agrees n (Request kind first last officer) = false
-agrees n (Withdraw m officer) = false
-agrees n (Agree toa twa officer) = eqb n twa.0
-agrees n (Block g) = false
-agrees n (Unblock g) = false
-agrees n (Grant m officer) = false
-agrees n (Clear m officer) = false
-agrees n (Reoccupy m officer) = false
-agrees n (HandOver m out into) = false
-agrees n (Fulfil m officer assurances) = false
-agrees n (Continue old new officer_old officer_new) = false
-agrees n (Move t g m officer) = false
-agrees n (Passed t) = false
-agrees n (Term m day time length) = false
-agrees n (Join twa toa officer distance) = eqb n toa.0
-agrees n (BookOut g paper) = false
-agrees n (BookIn g paper certified new) = false
+unfoldable pub agrees : ℕ → Option Call → Bool
+agrees n None = false
+agrees n (Some (Request kind first last officer)) = false
+agrees n (Some (Withdraw m officer)) = false
+agrees n (Some (Agree toa twa officer)) = eqb n twa.0
+agrees n (Some (Block g)) = false
+agrees n (Some (Unblock g)) = false
+agrees n (Some (Grant m officer)) = false
+agrees n (Some (Clear m officer)) = false
+agrees n (Some (Reoccupy m officer)) = false
+agrees n (Some (HandOver m out into)) = false
+agrees n (Some (Fulfil m officer assurances)) = false
+agrees n (Some (Continue old new officer_old officer_new)) = false
+agrees n (Some (Move t g m officer)) = false
+agrees n (Some (Passed t)) = false
+agrees n (Some (Term m day time length)) = false
+agrees n (Some (Join twa toa officer distance)) = eqb n toa.0
+agrees n (Some (BookOut g paper)) = false
+agrees n (Some (BookIn g paper certified new)) = false
 
 -- the call was accepted and recorded an agreement with authority n
 unfoldable pub agreed_by : ℕ → Answered → Bool
@@ -144,37 +143,36 @@ module _ (b : Board) (o : Once b) (s : Seven) where
     agreement = λ e. clash is e;
   }
 
-  effect_stays : (c : Call) → Accepted b s c → (x : Authority) → Member x b.authorities → ends (authority_no x) c ≡ false
+  effect_stays : (c : Option Call) → Accepted b s c → (x : Authority) → Member x b.authorities → ends (authority_no x) c ≡ false
       → StaysIn (agrees (authority_no x) c) x (effect b c).authorities
   unfolding effect ends agrees own condition_at not_live not_to_agree not_to_join
-  effect_stays NoSuchCall k x m e = (x, m, as_it_was x)
-  effect_stays BadField k x m e = (x, m, as_it_was x)
-  effect_stays (Request kind first last officer) k x m e = (x, Memᴰ.append_left _ m, as_it_was x)
-  effect_stays (Withdraw n officer) k x m e = (x, ended_stays n.0 b.authorities x m e, as_it_was x)
-  effect_stays (Agree toa twa officer) k x m e =
+  effect_stays None k x m e = (x, m, as_it_was x)
+  effect_stays (Some (Request kind first last officer)) k x m e = (x, Memᴰ.append_left _ m, as_it_was x)
+  effect_stays (Some (Withdraw n officer)) k x m e = (x, ended_stays n.0 b.authorities x m e, as_it_was x)
+  effect_stays (Some (Agree toa twa officer)) k x m e =
       let l : live b twa.0 ≡ true = search (told, k.ok 5) in
       changed_stays twa.0 (with_agreed toa) b.authorities x m (λ i. agreed_stays twa.0 x toa l (search (told, k.ok 6)) m i i)
-  effect_stays (Block g) k x m e = (x, m, as_it_was x)
-  effect_stays (Unblock g) k x m e = (x, m, as_it_was x)
-  effect_stays (Grant n officer) k x m e = changed_stays n.0 granted b.authorities x m (λ i. granted_stays x)
-  effect_stays (Clear n officer) k x m e =
+  effect_stays (Some (Block g)) k x m e = (x, m, as_it_was x)
+  effect_stays (Some (Unblock g)) k x m e = (x, m, as_it_was x)
+  effect_stays (Some (Grant n officer)) k x m e = changed_stays n.0 granted b.authorities x m (λ i. granted_stays x)
+  effect_stays (Some (Clear n officer)) k x m e =
       changed_stays n.0 (with_site false) b.authorities x m (λ i. alike x (with_site false x) refl refl refl refl refl)
-  effect_stays (Reoccupy n officer) k x m e =
+  effect_stays (Some (Reoccupy n officer)) k x m e =
       changed_stays n.0 (with_site true) b.authorities x m (λ i. alike x (with_site true x) refl refl refl refl refl)
-  effect_stays (HandOver n out into) k x m e =
+  effect_stays (Some (HandOver n out into)) k x m e =
       changed_stays n.0 (with_officer into) b.authorities x m (λ i. alike x (with_officer into x) refl refl refl refl refl)
-  effect_stays (Fulfil n officer assurances) k x m e = (x, ended_stays n.0 b.authorities x m e, as_it_was x)
-  effect_stays (Continue old new officer_old officer_new) k x m e =
+  effect_stays (Some (Fulfil n officer assurances)) k x m e = (x, ended_stays n.0 b.authorities x m e, as_it_was x)
+  effect_stays (Some (Continue old new officer_old officer_new)) k x m e =
       changed_stays new.0 granted (ended old.0 b.authorities) x (ended_stays old.0 b.authorities x m e) (λ i. granted_stays x)
-  effect_stays (Move t g n officer) k x m e = (x, m, as_it_was x)
-  effect_stays (Passed t) k x m e = (x, m, as_it_was x)
-  effect_stays (BookOut g paper) k x m e = (x, m, as_it_was x)
-  effect_stays (BookIn g paper certified new) k x m e = (x, m, as_it_was x)
-  effect_stays (Join twa toa officer distance) k x m e =
+  effect_stays (Some (Move t g n officer)) k x m e = (x, m, as_it_was x)
+  effect_stays (Some (Passed t)) k x m e = (x, m, as_it_was x)
+  effect_stays (Some (BookOut g paper)) k x m e = (x, m, as_it_was x)
+  effect_stays (Some (BookIn g paper certified new)) k x m e = (x, m, as_it_was x)
+  effect_stays (Some (Join twa toa officer distance)) k x m e =
       let l : live b toa.0 ≡ true = search (told, k.ok 5) in
       changed_stays toa.0 (with_agreed twa) b.authorities x m (λ i. agreed_stays toa.0 x twa l (search (told, k.ok 6)) m i i)
   -- 8: the authority that TERM names has no term
-  effect_stays (Term n day time length) k x m e =
+  effect_stays (Some (Term n day time length)) k x m e =
       changed_stays n.0 (with_term (minute_of day time) length) b.authorities x m
       (λ i. record {
         number = refl;

@@ -1,4 +1,5 @@
 -- Terms (02, order 1): a term starts within the days. That it stays with its authority until that ends: Stays.antt. Assumes nothing.
+use Rattle.std.specs.Prelude.{Option, Some, None}
 use Prim.Native.Nat.{ℕ, ◌*◌, ◌/◌, ◌%◌, ◌≤◌, ◌<◌}
 use native.Mathlib.Omega.{arith}
 use mathlib.Core.Path.{◌≡◌, refl, sym, subst}
@@ -15,7 +16,7 @@ use Rattle.rules.specs.declared.Gate.{Gate}
 use Rattle.rules.specs.declared.Authority.{Authority}
 use Rattle.rules.specs.declared.Seven.{Seven}
 use Rattle.rules.specs.declared.Call.{Call}
-use Rattle.rules.specs.declared.Call.TheVariants.{NoSuchCall, BadField, Request, Withdraw, Agree, Block, Unblock, Grant, Clear, Reoccupy, HandOver, Fulfil, Continue, Move, Passed, Term, Join, BookOut, BookIn}
+use Rattle.rules.specs.declared.Call.TheVariants.{Request, Withdraw, Agree, Block, Unblock, Grant, Clear, Reoccupy, HandOver, Fulfil, Continue, Move, Passed, Term, Join, BookOut, BookIn}
 use Rattle.rules.specs.Board.{Board, opened, is_authority, is_not_authority, with_stamp, ended}
 use Rattle.rules.specs.Call.{is_day, is_time, minute_of, named}
 use Rattle.rules.specs.Refusals.{answer}
@@ -41,30 +42,29 @@ days_changed : (test : Authority → Bool) (f : Authority → Authority) (xs : L
 days_changed test f xs same each =
     change_each InDays test f xs (λ x m e. each x m) (λ x m e. subst (λ (n : ℕ). n < 10000 * 1440) (sym (same x)) (each x m))
 
-starts_effect : (b : Board) (s : Seven) (c : Call) → Accepted b s c → Starts b → Starts (effect b c)
+starts_effect : (b : Board) (s : Seven) (c : Option Call) → Accepted b s c → Starts b → Starts (effect b c)
 unfolding effect
-starts_effect b s NoSuchCall k S = S
-starts_effect b s BadField k S = S
-starts_effect b s (Request kind first last officer) k S =
+starts_effect b s None k S = S
+starts_effect b s (Some (Request kind first last officer)) k S =
     λ a m. ⊎_elim (S a) (λ e. subst InDays (sym (Memᴰ.eq_of_singleton e)) (omega arith)) (Memᴰ.append_cases b.authorities m)
-starts_effect b s (Withdraw n officer) k S = λ a m. S a (kept (is_not_authority n.0) b.authorities a m).member
-starts_effect b s (Agree toa twa officer) k S = days_changed (is_authority twa.0) (with_agreed toa) b.authorities (λ a. refl) S
-starts_effect b s (Block g) k S = S
-starts_effect b s (Unblock g) k S = S
-starts_effect b s (Grant n officer) k S = days_changed (is_authority n.0) granted b.authorities (λ a. refl) S
-starts_effect b s (Clear n officer) k S = days_changed (is_authority n.0) (with_site false) b.authorities (λ a. refl) S
-starts_effect b s (Reoccupy n officer) k S = days_changed (is_authority n.0) (with_site true) b.authorities (λ a. refl) S
-starts_effect b s (HandOver n out into) k S = days_changed (is_authority n.0) (with_officer into) b.authorities (λ a. refl) S
-starts_effect b s (Fulfil n officer assurances) k S = λ a m. S a (kept (is_not_authority n.0) b.authorities a m).member
-starts_effect b s (Continue old new officer_old officer_new) k S =
+starts_effect b s (Some (Withdraw n officer)) k S = λ a m. S a (kept (is_not_authority n.0) b.authorities a m).member
+starts_effect b s (Some (Agree toa twa officer)) k S = days_changed (is_authority twa.0) (with_agreed toa) b.authorities (λ a. refl) S
+starts_effect b s (Some (Block g)) k S = S
+starts_effect b s (Some (Unblock g)) k S = S
+starts_effect b s (Some (Grant n officer)) k S = days_changed (is_authority n.0) granted b.authorities (λ a. refl) S
+starts_effect b s (Some (Clear n officer)) k S = days_changed (is_authority n.0) (with_site false) b.authorities (λ a. refl) S
+starts_effect b s (Some (Reoccupy n officer)) k S = days_changed (is_authority n.0) (with_site true) b.authorities (λ a. refl) S
+starts_effect b s (Some (HandOver n out into)) k S = days_changed (is_authority n.0) (with_officer into) b.authorities (λ a. refl) S
+starts_effect b s (Some (Fulfil n officer assurances)) k S = λ a m. S a (kept (is_not_authority n.0) b.authorities a m).member
+starts_effect b s (Some (Continue old new officer_old officer_new)) k S =
     days_changed (is_authority new.0) granted (ended old.0 b.authorities) (λ a. refl)
     (λ a m. S a (kept (is_not_authority old.0) b.authorities a m).member)
-starts_effect b s (Move t g n officer) k S = S
-starts_effect b s (Passed t) k S = S
-starts_effect b s (BookOut g paper) k S = S
-starts_effect b s (BookIn g paper certified new) k S = S
-starts_effect b s (Join twa toa officer distance) k S = days_changed (is_authority toa.0) (with_agreed twa) b.authorities (λ a. refl) S
-starts_effect b s (Term n day time length) k S =
+starts_effect b s (Some (Move t g n officer)) k S = S
+starts_effect b s (Some (Passed t)) k S = S
+starts_effect b s (Some (BookOut g paper)) k S = S
+starts_effect b s (Some (BookIn g paper certified new)) k S = S
+starts_effect b s (Some (Join twa toa officer distance)) k S = days_changed (is_authority toa.0) (with_agreed twa) b.authorities (λ a. refl) S
+starts_effect b s (Some (Term n day time length)) k S =
     change_each InDays (is_authority n.0) (with_term (minute_of day time) length) b.authorities (λ x m e. S x m)
     (λ x m e. minute_lt day time k.ranges.0 k.ranges.1)
 

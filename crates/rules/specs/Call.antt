@@ -1,15 +1,18 @@
 -- The seven numbers of a call, what its fields are called, and their ranges (01, "The thirteen calls"; 02, order 1: TERM, order 4: JOIN, order 6:
 -- BOOK OUT and BOOK IN). Assumes nothing.
-use Rattle.std.specs.Prelude.{ℕ, ◌+◌, ◌*◌, ◌/◌, ◌%◌, Bool, true, cond, not, ◌&&◌, List, [], ◌∷◌, length, get_or, eqb, leb, ltb}
+use Rattle.std.specs.Prelude.{ℕ, Option, Some, None, Result, Ok, Err, ◌+◌, ◌*◌, ◌/◌, ◌%◌, Bool, true, cond, not, ◌&&◌, List, [], ◌∷◌, length, get_or, eqb, leb, ltb}
 use Rattle.rules.specs.declared.AuthorityNo.{AuthorityNo}
 use Rattle.rules.specs.declared.TrainNo.{TrainNo}
 use Rattle.rules.specs.declared.GateNo.{GateNo}
 use Rattle.rules.specs.declared.PaperNo.{PaperNo}
-use Rattle.rules.specs.declared.Kind.{Kind}
-use Rattle.rules.specs.declared.Kind.TheVariants.{Lpa, Toa, Twa}
+use Rattle.rules.specs.declared.kind.Kind.{Kind}
+use Rattle.rules.specs.declared.kind.Kind.TheVariants.{Lpa, Toa, Twa}
 use Rattle.rules.specs.declared.Seven.{Seven}
 use Rattle.rules.specs.declared.Call.{Call}
-use Rattle.rules.specs.declared.Call.TheVariants.{NoSuchCall, BadField, Request, Withdraw, Agree, Block, Unblock, Grant, Clear, Reoccupy, HandOver, Fulfil, Continue, Move, Passed, Term, Join, BookOut, BookIn}
+use Rattle.rules.specs.declared.Call.TheVariants.{Request, Withdraw, Agree, Block, Unblock, Grant, Clear, Reoccupy, HandOver, Fulfil, Continue, Move, Passed, Term, Join, BookOut, BookIn}
+use Rattle.rules.specs.declared.refusal.Refusal.{Refusal}
+use Rattle.rules.specs.declared.refusal.Refusal.TheVariants.{NoSuchCall}
+use Rattle.rules.specs.declared.refusal.Refusal.TheVariants as Word
 use Rattle.rules.specs.declared.Field.{Field}
 use Rattle.rules.specs.declared.Form.{Form}
 
@@ -91,35 +94,35 @@ form a b c d = record { a = a; b = b; c = c; d = d }
 -- an entry of the table: the kinds of the four fields, and the call with its fields named
 pub record Entry : Type 0 where
   pub form : Form
-  pub named : Seven → Call
+  pub named : Seven → Option Call
 
-abbrev pub entry : Form → (Seven → Call) → Entry
+abbrev pub entry : Form → (Seven → Option Call) → Entry
 entry form named = record { form = form; named = named }
 
 -- the calls in order: 1 to 13 of 01, 14 of 02's order 1, 15 of its order 4, 16 and 17 of its order 6
 unfoldable pub calls : List Entry
 calls =
-    entry (form Field.Kind Field.First Field.Last Field.Officer) (λ s. Request (kind_of s.a) s.b s.c s.d)
-    ∷ entry (form Field.Authority Field.Officer Field.Unused Field.Unused) (λ s. Withdraw (authority_of s.a) s.b)
-    ∷ entry (form Field.Authority Field.Authority Field.Officer Field.Unused) (λ s. Agree (authority_of s.a) (authority_of s.b) s.c)
-    ∷ entry (form Field.Gate Field.Unused Field.Unused Field.Unused) (λ s. Block (gate_of s.a))
-    ∷ entry (form Field.Gate Field.Unused Field.Unused Field.Unused) (λ s. Unblock (gate_of s.a))
-    ∷ entry (form Field.Authority Field.Officer Field.Unused Field.Unused) (λ s. Grant (authority_of s.a) s.b)
-    ∷ entry (form Field.Authority Field.Officer Field.Unused Field.Unused) (λ s. Clear (authority_of s.a) s.b)
-    ∷ entry (form Field.Authority Field.Officer Field.Unused Field.Unused) (λ s. Reoccupy (authority_of s.a) s.b)
-    ∷ entry (form Field.Authority Field.Officer Field.Officer Field.Unused) (λ s. HandOver (authority_of s.a) s.b s.c)
-    ∷ entry (form Field.Authority Field.Officer Field.Assurances Field.Unused) (λ s. Fulfil (authority_of s.a) s.b s.c)
-    ∷ entry (form Field.Authority Field.Authority Field.Officer Field.Officer) (λ s. Continue (authority_of s.a) (authority_of s.b) s.c s.d)
-    ∷ entry (form Field.Train Field.Gate Field.AuthorityOrNone Field.OfficerOrNone) (λ s. Move (train_of s.a) (gate_of s.b) (authority_of s.c) s.d)
-    ∷ entry (form Field.Train Field.Unused Field.Unused Field.Unused) (λ s. Passed (train_of s.a))
-    ∷ entry (form Field.Authority Field.Day Field.Time Field.Length) (λ s. Term (authority_of s.a) s.b s.c s.d)
-    ∷ entry (form Field.Authority Field.Authority Field.Officer Field.Distance) (λ s. Join (authority_of s.a) (authority_of s.b) s.c s.d)
-    ∷ entry (form Field.Gate Field.Paper Field.Unused Field.Unused) (λ s. BookOut (gate_of s.a) (paper_of s.b))
-    ∷ entry (form Field.Gate Field.Paper Field.Certified Field.NewPaper) (λ s. BookIn (gate_of s.a) (paper_of s.b) (eqb s.c 1) (paper_of s.d))
+    entry (form Field.Kind Field.First Field.Last Field.Officer) (λ s. Some (Request (kind_of s.a) s.b s.c s.d))
+    ∷ entry (form Field.Authority Field.Officer Field.Unused Field.Unused) (λ s. Some (Withdraw (authority_of s.a) s.b))
+    ∷ entry (form Field.Authority Field.Authority Field.Officer Field.Unused) (λ s. Some (Agree (authority_of s.a) (authority_of s.b) s.c))
+    ∷ entry (form Field.Gate Field.Unused Field.Unused Field.Unused) (λ s. Some (Block (gate_of s.a)))
+    ∷ entry (form Field.Gate Field.Unused Field.Unused Field.Unused) (λ s. Some (Unblock (gate_of s.a)))
+    ∷ entry (form Field.Authority Field.Officer Field.Unused Field.Unused) (λ s. Some (Grant (authority_of s.a) s.b))
+    ∷ entry (form Field.Authority Field.Officer Field.Unused Field.Unused) (λ s. Some (Clear (authority_of s.a) s.b))
+    ∷ entry (form Field.Authority Field.Officer Field.Unused Field.Unused) (λ s. Some (Reoccupy (authority_of s.a) s.b))
+    ∷ entry (form Field.Authority Field.Officer Field.Officer Field.Unused) (λ s. Some (HandOver (authority_of s.a) s.b s.c))
+    ∷ entry (form Field.Authority Field.Officer Field.Assurances Field.Unused) (λ s. Some (Fulfil (authority_of s.a) s.b s.c))
+    ∷ entry (form Field.Authority Field.Authority Field.Officer Field.Officer) (λ s. Some (Continue (authority_of s.a) (authority_of s.b) s.c s.d))
+    ∷ entry (form Field.Train Field.Gate Field.AuthorityOrNone Field.OfficerOrNone) (λ s. Some (Move (train_of s.a) (gate_of s.b) (authority_of s.c) s.d))
+    ∷ entry (form Field.Train Field.Unused Field.Unused Field.Unused) (λ s. Some (Passed (train_of s.a)))
+    ∷ entry (form Field.Authority Field.Day Field.Time Field.Length) (λ s. Some (Term (authority_of s.a) s.b s.c s.d))
+    ∷ entry (form Field.Authority Field.Authority Field.Officer Field.Distance) (λ s. Some (Join (authority_of s.a) (authority_of s.b) s.c s.d))
+    ∷ entry (form Field.Gate Field.Paper Field.Unused Field.Unused) (λ s. Some (BookOut (gate_of s.a) (paper_of s.b)))
+    ∷ entry (form Field.Gate Field.Paper Field.Certified Field.NewPaper) (λ s. Some (BookIn (gate_of s.a) (paper_of s.b) (eqb s.c 1) (paper_of s.d)))
     ∷ []
 
 abbrev pub no_entry : Entry
-no_entry = entry (form Field.Unused Field.Unused Field.Unused Field.Unused) (λ s. NoSuchCall)
+no_entry = entry (form Field.Unused Field.Unused Field.Unused Field.Unused) (λ s. None)
 
 -- the entry of the call with that number; 0 and the numbers beyond the table are no call's
 unfoldable pub entry_of : ℕ → Entry
@@ -128,8 +131,8 @@ entry_of call = get_or (no_entry ∷ calls) call no_entry
 unfoldable pub is_call : ℕ → Bool
 is_call call = between 1 (length calls) call
 
--- the call that the seven numbers are, its fields named
-unfoldable pub named : Seven → Call
+-- the call that the seven numbers are, its fields named; none where no call has the number
+unfoldable pub named : Seven → Option Call
 named s = (entry_of s.call).named s
 
 -- the four fields are in their ranges
@@ -141,6 +144,10 @@ in_form P G f s =
 unfoldable pub in_ranges : ℕ → ℕ → Seven → Bool
 in_ranges P G s = is_day s.day && is_time s.time && in_form P G (entry_of s.call).form s
 
--- the call read off the seven numbers on a board of P portions and G gates, or what is wrong with its number or its fields
-unfoldable pub decoded : ℕ → ℕ → Seven → Call
-decoded P G s = cond (is_call s.call) (cond (in_ranges P G s) (named s) BadField) NoSuchCall
+-- the call read off the seven numbers on a board of P portions and G gates, or the refusal of its number or its fields
+abbrev pub or_no_call : Option Call → Result Call Refusal
+or_no_call (Some c) = Ok c
+or_no_call None = Err NoSuchCall
+
+unfoldable pub decoded : ℕ → ℕ → Seven → Result Call Refusal
+decoded P G s = cond (is_call s.call) (cond (in_ranges P G s) (or_no_call (named s)) (Err Word.Field)) (Err NoSuchCall)

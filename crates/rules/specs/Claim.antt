@@ -1,7 +1,7 @@
 -- Demand 3's claim about what is reckoned from a list of calls, its four statements in the customer's words, the first with 02's order 4: by
 -- portions, and not by the sets that a register holds. Assumes nothing.
 use Rattle.std.specs.Prelude.{ℕ, ◌≤◌, ◌<◌, ◌≡◌, ◌⊎◌, Bool, true, List, length}
-use Rattle.rules.specs.declared.Kind.TheVariants.{Toa, Twa}
+use Rattle.rules.specs.declared.kind.Kind.TheVariants.{Toa, Twa}
 use Rattle.rules.specs.declared.Gate.{Gate}
 use Rattle.rules.specs.Board.{gate_at, exclusive}
 use Rattle.rules.specs.Reckoning.{Reckoned, Position, Reckoning}

@@ -1,6 +1,6 @@
 -- What an accepted call does (01, "The thirteen calls"; 02, order 1: TERM, order 4: JOIN, order 5: the order, order 6: BOOK OUT and
 -- BOOK IN). Nothing else changes. Assumes nothing.
-use Rattle.std.specs.Prelude.{ℕ, suc, Bool, true, false, cond, List, [], ◌∷◌, ◌++◌, set, eqb}
+use Rattle.std.specs.Prelude.{ℕ, suc, Bool, true, false, cond, List, [], ◌∷◌, ◌++◌, set, eqb, Option, Some, None}
 use Rattle.lists.specs.Search.{change}
 use Rattle.lists.specs.Order.{insert_by}
 use Rattle.portions.specs.Sets.{has, run, insert, remove}
@@ -8,11 +8,11 @@ use Rattle.rules.specs.declared.AuthorityNo.{AuthorityNo}
 use Rattle.rules.specs.declared.TrainNo.{TrainNo}
 use Rattle.rules.specs.declared.PaperNo.{PaperNo}
 use Rattle.rules.specs.declared.Booking.{Booking}
-use Rattle.rules.specs.declared.Kind.{Kind}
+use Rattle.rules.specs.declared.kind.Kind.{Kind}
 use Rattle.rules.specs.declared.Authority.{Authority}
 use Rattle.rules.specs.declared.Train.{Train}
 use Rattle.rules.specs.declared.Call.{Call}
-use Rattle.rules.specs.declared.Call.TheVariants.{NoSuchCall, BadField, Request, Withdraw, Agree, Block, Unblock, Grant, Clear, Reoccupy, HandOver, Fulfil, Continue, Move, Passed, Term, Join, BookOut, BookIn}
+use Rattle.rules.specs.declared.Call.TheVariants.{Request, Withdraw, Agree, Block, Unblock, Grant, Clear, Reoccupy, HandOver, Fulfil, Continue, Move, Passed, Term, Join, BookOut, BookIn}
 use Rattle.rules.specs.Board.{Board, is_outside, no_booking, gate_at, is_in_force, has_workers_on, train_no, authority, train, with_authorities, with_trains, with_blocks, with_bookings, with_last, amended, ended, moved, gone}
 use Rattle.rules.specs.Call.{authority_of, paper_of, minute_of}
 
@@ -147,50 +147,49 @@ booked_in paper certified new = cond certified no_booking (record { paper = new;
 
 -- ---- each call
 
-unfoldable pub effect : Board → Call → Board
-effect b NoSuchCall = b
-effect b BadField = b
+unfoldable pub effect : Board → Option Call → Board
+effect b None = b
 -- REQUEST: "Numbers are allotted 1, 2, 3 up to 9999 and never reused.", so that the new one's place by ascending number (order 5) is the end;
 -- "limits (a first and a last portion and all between, held as one set of portions)"
-effect b (Request kind first last officer) =
+effect b (Some (Request kind first last officer)) =
     with_last (suc b.last)
     (with_authorities (b.authorities ++ (requested (suc b.last) kind (run first last) officer ∷ [])) b)
 -- WITHDRAW: "It is live until withdrawn, fulfilled or continued as old"
-effect b (Withdraw n officer) = with_authorities (ended n.0 b.authorities) b
+effect b (Some (Withdraw n officer)) = with_authorities (ended n.0 b.authorities) b
 -- AGREE
-effect b (Agree toa twa officer) = with_authorities (amended twa.0 (with_agreed toa) b.authorities) b
+effect b (Some (Agree toa twa officer)) = with_authorities (amended twa.0 (with_agreed toa) b.authorities) b
 -- BLOCK, UNBLOCK
-effect b (Block g) = with_blocks (insert g.0 b.blocks) b
-effect b (Unblock g) = with_blocks (remove g.0 b.blocks) b
+effect b (Some (Block g)) = with_blocks (insert g.0 b.blocks) b
+effect b (Some (Unblock g)) = with_blocks (remove g.0 b.blocks) b
 -- GRANT
-effect b (Grant n officer) = with_authorities (amended n.0 granted b.authorities) b
+effect b (Some (Grant n officer)) = with_authorities (amended n.0 granted b.authorities) b
 -- CLEAR, REOCCUPY
-effect b (Clear n officer) = with_authorities (amended n.0 (with_site false) b.authorities) b
-effect b (Reoccupy n officer) = with_authorities (amended n.0 (with_site true) b.authorities) b
+effect b (Some (Clear n officer)) = with_authorities (amended n.0 (with_site false) b.authorities) b
+effect b (Some (Reoccupy n officer)) = with_authorities (amended n.0 (with_site true) b.authorities) b
 -- HAND OVER
-effect b (HandOver n out into) = with_authorities (amended n.0 (with_officer into) b.authorities) b
+effect b (Some (HandOver n out into)) = with_authorities (amended n.0 (with_officer into) b.authorities) b
 -- FULFIL: "Blocks stay on."
-effect b (Fulfil n officer assurances) =
+effect b (Some (Fulfil n officer assurances)) =
     with_trains (freed n.0 b.trains) (with_authorities (ended n.0 b.authorities) b)
 -- CONTINUE: "Old ends, new is in force with workers on."
-effect b (Continue old new officer_old officer_new) =
+effect b (Some (Continue old new officer_old officer_new)) =
     with_trains (continued old.0 new (authority b new.0).limits b.trains)
     (with_authorities (amended new.0 granted (ended old.0 b.authorities)) b)
 -- MOVE: "Blocks stay on."; order 5: a train from outside comes to its place "by ascending number"
-effect b (Move t g n officer) =
+effect b (Some (Move t g n officer)) =
     with_trains
     (cond (is_outside (gate_at b.gates g.0).from) (insert_by train_no (entered t (gate_at b.gates g.0).to n) b.trains)
     (moved t.0 (with_head (gate_at b.gates g.0).to n) b.trains))
     b
 -- PASSED: "a head outside takes the train off"
-effect b (Passed t) =
+effect b (Some (Passed t)) =
     with_trains
     (cond (is_outside (train b t.0).head) (gone t.0 b.trains) (moved t.0 with_rear_in b.trains))
     b
 -- TERM
-effect b (Term n day time length) = with_authorities (amended n.0 (with_term (minute_of day time) length) b.authorities) b
+effect b (Some (Term n day time length)) = with_authorities (amended n.0 (with_term (minute_of day time) length) b.authorities) b
 -- JOIN: "The TOA records the TWA"
-effect b (Join twa toa officer distance) = with_authorities (amended toa.0 (with_agreed twa) b.authorities) b
+effect b (Some (Join twa toa officer distance)) = with_authorities (amended toa.0 (with_agreed twa) b.authorities) b
 -- BOOK OUT, BOOK IN: of that gate alone
-effect b (BookOut g paper) = with_bookings (set b.bookings g.0 (booked_out paper)) b
-effect b (BookIn g paper certified new) = with_bookings (set b.bookings g.0 (booked_in paper certified new)) b
+effect b (Some (BookOut g paper)) = with_bookings (set b.bookings g.0 (booked_out paper)) b
+effect b (Some (BookIn g paper certified new)) = with_bookings (set b.bookings g.0 (booked_in paper certified new)) b

@@ -6,6 +6,7 @@ pub mod Effects
 pub mod Plan
 pub mod Journal
 pub mod Sheet
+pub mod Answer
 pub mod Step
 pub mod Reckoning
 pub mod Claim

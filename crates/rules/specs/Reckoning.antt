@@ -1,11 +1,11 @@
 -- Demand 3's reckoning: what is in force and since when, on site, agreed and blocked, and where and under which authority trains stand, read
 -- off a list of calls and their answers in order (01, "The reckoning of demand 3"; 02, orders 4 and 7). Nothing here reads a register. Assumes nothing.
-use Rattle.std.specs.Prelude.{ℕ, suc, Bool, true, false, cond, ◌&&◌, List, [], ◌∷◌, eqb}
-use Rattle.rules.specs.declared.Kind.{Kind}
-use Rattle.rules.specs.declared.Kind.TheVariants.{Lpa}
+use Rattle.std.specs.Prelude.{ℕ, suc, Bool, true, false, cond, ◌&&◌, List, [], ◌∷◌, eqb, Option, Some, None}
+use Rattle.rules.specs.declared.kind.Kind.{Kind}
+use Rattle.rules.specs.declared.kind.Kind.TheVariants.{Lpa}
 use Rattle.rules.specs.declared.Gate.{Gate}
 use Rattle.rules.specs.declared.Call.{Call}
-use Rattle.rules.specs.declared.Call.TheVariants.{NoSuchCall, BadField, Request, Withdraw, Agree, Block, Unblock, Grant, Clear, Reoccupy, HandOver, Fulfil, Continue, Move, Passed, Term, Join, BookOut, BookIn}
+use Rattle.rules.specs.declared.Call.TheVariants.{Request, Withdraw, Agree, Block, Unblock, Grant, Clear, Reoccupy, HandOver, Fulfil, Continue, Move, Passed, Term, Join, BookOut, BookIn}
 use Rattle.rules.specs.Board.{is_outside, gate_at, is_toa, is_twa}
 use Rattle.rules.specs.Call.{between, named}
 use Rattle.rules.specs.Step.{Answered}
@@ -187,10 +187,9 @@ forced n r = record {
 
 -- ---- one accepted call
 
-unfoldable pub reckon : List Gate → Reckoning → Call → Reckoning
-reckon gates r NoSuchCall = r
-reckon gates r BadField = r
-reckon gates r (Request kind first last officer) = record {
+unfoldable pub reckon : List Gate → Reckoning → Option Call → Reckoning
+reckon gates r None = r
+reckon gates r (Some (Request kind first last officer)) = record {
   requests = suc r.requests;
   grants = r.grants;
   authority = put (suc r.requests) (as_requested kind first last (r.authority (suc r.requests))) r.authority;
@@ -198,29 +197,29 @@ reckon gates r (Request kind first last officer) = record {
   blocked = r.blocked;
 }
 -- "WITHDRAW and HAND OVER change nothing here."
-reckon gates r (Withdraw n officer) = r
-reckon gates r (HandOver n out into) = r
-reckon gates r (Agree toa twa officer) = with_authorities (put twa.0 (as_agreed toa.0 (r.authority twa.0)) r.authority) r
+reckon gates r (Some (Withdraw n officer)) = r
+reckon gates r (Some (HandOver n out into)) = r
+reckon gates r (Some (Agree toa twa officer)) = with_authorities (put twa.0 (as_agreed toa.0 (r.authority twa.0)) r.authority) r
 -- "A gate is blocked if it has had a BLOCK and no UNBLOCK since."
-reckon gates r (Block g) = with_blocked (put g.0 true r.blocked) r
-reckon gates r (Unblock g) = with_blocked (put g.0 false r.blocked) r
-reckon gates r (Grant n officer) = forced n.0 r
-reckon gates r (Clear n officer) = with_authorities (put n.0 (as_sited false (r.authority n.0)) r.authority) r
-reckon gates r (Reoccupy n officer) = with_authorities (put n.0 (as_sited true (r.authority n.0)) r.authority) r
-reckon gates r (Fulfil n officer assurances) = with_authorities (put n.0 (as_ended (r.authority n.0)) r.authority) r
-reckon gates r (Continue old new officer_old officer_new) =
+reckon gates r (Some (Block g)) = with_blocked (put g.0 true r.blocked) r
+reckon gates r (Some (Unblock g)) = with_blocked (put g.0 false r.blocked) r
+reckon gates r (Some (Grant n officer)) = forced n.0 r
+reckon gates r (Some (Clear n officer)) = with_authorities (put n.0 (as_sited false (r.authority n.0)) r.authority) r
+reckon gates r (Some (Reoccupy n officer)) = with_authorities (put n.0 (as_sited true (r.authority n.0)) r.authority) r
+reckon gates r (Some (Fulfil n officer assurances)) = with_authorities (put n.0 (as_ended (r.authority n.0)) r.authority) r
+reckon gates r (Some (Continue old new officer_old officer_new)) =
     forced new.0
     (with_trains (λ t. as_continued old.0 new.0 (r.authority new.0) (r.train t))
     (with_authorities (put old.0 (as_ended (r.authority old.0)) r.authority) r))
-reckon gates r (Move t g n officer) = with_trains (put t.0 (as_moved (gate_at gates g.0) n.0 (r.train t.0)) r.train) r
-reckon gates r (Passed t) = with_trains (put t.0 (as_passed (r.train t.0)) r.train) r
+reckon gates r (Some (Move t g n officer)) = with_trains (put t.0 (as_moved (gate_at gates g.0) n.0 (r.train t.0)) r.train) r
+reckon gates r (Some (Passed t)) = with_trains (put t.0 (as_passed (r.train t.0)) r.train) r
 -- TERM (02, order 1) changes nothing here: demand 3 speaks of what is in force, and a term is no part of that
-reckon gates r (Term n day time length) = r
+reckon gates r (Some (Term n day time length)) = r
 -- JOIN (02, order 4): of the TOA, as AGREE is of the TWA
-reckon gates r (Join twa toa officer distance) = with_authorities (put toa.0 (as_joined twa.0 (r.authority toa.0)) r.authority) r
+reckon gates r (Some (Join twa toa officer distance)) = with_authorities (put toa.0 (as_joined twa.0 (r.authority toa.0)) r.authority) r
 -- BOOK OUT and BOOK IN (02, order 6) change nothing here: "A gate is blocked if it has had a BLOCK and no UNBLOCK since.", whatever its booking
-reckon gates r (BookOut g paper) = r
-reckon gates r (BookIn g paper certified new) = r
+reckon gates r (Some (BookOut g paper)) = r
+reckon gates r (Some (BookIn g paper certified new)) = r
 
 -- ---- "The reckoning of demand 3 reads the list in order: each call's seven numbers and its answer"
 

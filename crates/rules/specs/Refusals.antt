@@ -1,6 +1,6 @@
 -- The conditions for refusal of each call, and its answer (01, "The thirteen calls" and "Refusal words"; 02, orders 1, 4 and 6). Assumes
 -- nothing.
-use Rattle.std.specs.Prelude.{ℕ, ◌+◌, Bool, cond, not, ◌&&◌, ◌||◌, List, [], ◌∷◌, length, eqb, leb, ltb}
+use Rattle.std.specs.Prelude.{ℕ, ◌+◌, Bool, cond, not, ◌&&◌, ◌||◌, List, [], ◌∷◌, length, eqb, leb, ltb, Option, Some, None}
 use Rattle.lists.specs.Search.{any, first, below}
 use Rattle.portions.specs.Sets.{has, shares}
 use Rattle.rules.specs.declared.Gate.{Gate}
@@ -8,7 +8,7 @@ use Rattle.rules.specs.declared.Authority.{Authority}
 use Rattle.rules.specs.declared.Train.{Train}
 use Rattle.rules.specs.declared.Seven.{Seven}
 use Rattle.rules.specs.declared.Call.{Call}
-use Rattle.rules.specs.declared.Call.TheVariants.{NoSuchCall, BadField, Request, Withdraw, Agree, Block, Unblock, Grant, Clear, Reoccupy, HandOver, Fulfil, Continue, Move, Passed, Term, Join, BookOut, BookIn}
+use Rattle.rules.specs.declared.Call.TheVariants.{Request, Withdraw, Agree, Block, Unblock, Grant, Clear, Reoccupy, HandOver, Fulfil, Continue, Move, Passed, Term, Join, BookOut, BookIn}
 use Rattle.rules.specs.Board.{Board, is_outside, no_authority, gate_at, booking_at, is_out, is_plain, can_be_blocked, exclusive, is_lpa, is_toa, is_twa, is_in_force, has_workers_on, has_term, authority_no, is_train, live, authority, on_board, train, touches, touches_portion, needs}
 use Rattle.rules.specs.Call.{minute_of, is_call, named, in_ranges}
 
@@ -337,26 +337,25 @@ book_in_refusals b g paper certified =
     ∷ []
 
 -- the conditions of a call; `s` has its stamp
-unfoldable pub own : Board → Seven → Call → List Refusal
-own b s NoSuchCall = []
-own b s BadField = []
-own b s (Request kind first last officer) = request_refusals b
-own b s (Withdraw n officer) = withdraw_refusals b n.0 officer
-own b s (Agree toa twa officer) = agree_refusals b toa.0 twa.0 officer
-own b s (Block g) = block_refusals b g.0
-own b s (Unblock g) = unblock_refusals b g.0
-own b s (Grant n officer) = grant_refusals b s n.0 officer
-own b s (Clear n officer) = clear_refusals b n.0 officer
-own b s (Reoccupy n officer) = reoccupy_refusals b n.0 officer
-own b s (HandOver n out into) = hand_over_refusals b n.0 out into
-own b s (Fulfil n officer assurances) = fulfil_refusals b n.0 officer assurances
-own b s (Continue old new officer_old officer_new) = continue_refusals b s old.0 new.0 officer_old officer_new
-own b s (Move t g n officer) = move_refusals b t.0 g.0 (gate_at b.gates g.0) n.0 officer
-own b s (Passed t) = passed_refusals b t.0
-own b s (Term n day time length) = term_refusals b s n.0 (minute_of day time)
-own b s (Join twa toa officer distance) = join_refusals b twa.0 toa.0 officer distance
-own b s (BookOut g paper) = book_out_refusals b g.0
-own b s (BookIn g paper certified new) = book_in_refusals b g.0 paper.0 certified
+unfoldable pub own : Board → Seven → Option Call → List Refusal
+own b s None = []
+own b s (Some (Request kind first last officer)) = request_refusals b
+own b s (Some (Withdraw n officer)) = withdraw_refusals b n.0 officer
+own b s (Some (Agree toa twa officer)) = agree_refusals b toa.0 twa.0 officer
+own b s (Some (Block g)) = block_refusals b g.0
+own b s (Some (Unblock g)) = unblock_refusals b g.0
+own b s (Some (Grant n officer)) = grant_refusals b s n.0 officer
+own b s (Some (Clear n officer)) = clear_refusals b n.0 officer
+own b s (Some (Reoccupy n officer)) = reoccupy_refusals b n.0 officer
+own b s (Some (HandOver n out into)) = hand_over_refusals b n.0 out into
+own b s (Some (Fulfil n officer assurances)) = fulfil_refusals b n.0 officer assurances
+own b s (Some (Continue old new officer_old officer_new)) = continue_refusals b s old.0 new.0 officer_old officer_new
+own b s (Some (Move t g n officer)) = move_refusals b t.0 g.0 (gate_at b.gates g.0) n.0 officer
+own b s (Some (Passed t)) = passed_refusals b t.0
+own b s (Some (Term n day time length)) = term_refusals b s n.0 (minute_of day time)
+own b s (Some (Join twa toa officer distance)) = join_refusals b twa.0 toa.0 officer distance
+own b s (Some (BookOut g paper)) = book_out_refusals b g.0
+own b s (Some (BookIn g paper certified new)) = book_in_refusals b g.0 paper.0 certified
 
 -- all conditions of a call; `room` is the length of the buffer for its line
 unfoldable pub conditions : Board → Seven → ℕ → List Refusal

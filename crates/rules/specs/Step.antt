@@ -13,6 +13,7 @@ use Rattle.rules.specs.Refusals.{answer}
 use Rattle.rules.specs.Effects.{effect}
 use Rattle.rules.specs.Plan.{open_board, open_answer}
 use Rattle.rules.specs.Journal.{line_after}
+use Rattle.rules.specs.Answer.{answer_no, number_no, is_numbered}
 
 -- ---- one call
 
@@ -76,13 +77,14 @@ pub record Kept (r : Register) : Type 0 where
 -- the whole result of `open` for a plan's text
 pub record OpenPost (text : List ℕ) (r : Opened) : Type 0 where
   pub board : board_of r.register ≡ open_board text
-  pub answered : r.answer ≡ open_answer text
+  pub answered : answer_no r.answer ≡ open_answer text
   pub kept : Kept r.register
 
 -- the whole result of `call` for a register, seven numbers and a buffer
 pub record CallPost (before : Register) (s : Seven) (buffer : List ℕ) (r : Called) (buffer' : List ℕ) : Type 0 where
   pub board : board_of r.register ≡ after (board_of before) s (length buffer)
-  pub answered : r.answer ≡ answer (board_of before) s (length buffer)
-  pub number : r.number ≡ allotted (board_of before) s (length buffer)
-  pub line : buffer' ≡ line_after s r.answer r.number buffer
+  pub answered : answer_no r.answer ≡ answer (board_of before) s (length buffer)
+  pub number : number_no r.answer ≡ allotted (board_of before) s (length buffer)
+  pub numbered : is_numbered r.answer ≡ (eqb (answer (board_of before) s (length buffer)) 0 && eqb s.call 1)
+  pub line : buffer' ≡ line_after s (answer_no r.answer) (number_no r.answer) buffer
   pub kept : Kept r.register

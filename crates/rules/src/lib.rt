@@ -1,8 +1,15 @@
-// The types that the rules and the code share, and the refusals by name. No function: documents 01 and 02 stand in specs/ as definitions, the
+// The types that the rules and the code share, and the refusals by name. Documents 01 and 02 stand in specs/ as definitions, the
 // theorems in proofs/.
 #![tactic(auto)]
 
-pub mod refusal;
+ghost use Rattle.std.specs.Prelude.{◌≡◌};
+ghost use Rattle.rules.specs.Answer.{answer_no, number_no};
+
+mod kind;
+mod refusal;
+
+pub use kind::Kind;
+pub use refusal::Refusal;
 
 use arrayvec::ArrayVec;
 
@@ -19,17 +26,8 @@ pub struct GateNo(pub u16);
 #[derive(Clone, Copy, Debug, Default, PartialEq, Eq)]
 pub struct PaperNo(pub u16);
 
-// The kinds of authority. LPA and TOA are exclusive.
-#[derive(Clone, Copy, Debug, Default, PartialEq, Eq)]
-pub enum Kind {
-    #[default]
-    Lpa,
-    Toa,
-    Twa,
-}
-
 // A call as it is handed in: seven numbers of 16 bits.
-#[derive(Clone, Copy)]
+#[derive(Clone, Copy, Debug, PartialEq, Eq)]
 pub struct Seven {
     pub day: u16,
     pub time: u16,
@@ -41,7 +39,7 @@ pub struct Seven {
 }
 
 // The kinds of field of a call; each has a range of its own.
-#[derive(Clone, Copy)]
+#[derive(Clone, Copy, Debug, PartialEq, Eq)]
 pub enum Field {
     Unused,
     Kind,
@@ -64,7 +62,7 @@ pub enum Field {
 }
 
 // The kinds of a call's four fields.
-#[derive(Clone, Copy)]
+#[derive(Clone, Copy, Debug, PartialEq, Eq)]
 pub struct Form {
     pub a: Field,
     pub b: Field,
@@ -72,11 +70,9 @@ pub struct Form {
     pub d: Field,
 }
 
-// A call with its fields named, or what is wrong with its number or its fields.
-#[derive(Clone, Copy)]
+// A call with its fields named.
+#[derive(Clone, Copy, Debug, PartialEq, Eq)]
 pub enum Call {
-    NoSuchCall,
-    BadField,
     Request {
         kind: Kind,
         first: u16,
@@ -213,17 +209,39 @@ pub struct Register {
     pub trains: ArrayVec<Train, 32>,
 }
 
-// What opening returns: the register, and 0 or the refusal.
+// What a call answers: the number allotted by an accepted REQUEST, none for any other accepted call, or the refusal.
+pub type Answer = Result<Option<AuthorityNo>, Refusal>;
+
+// What opening returns: the register, the closed board's where the plan is refused.
 #[derive(Drop)]
 pub struct Opened {
     pub register: Register,
-    pub answer: u16,
+    pub answer: Result<(), Refusal>,
 }
 
-// What a call returns: the register, 0 or the refusal, and the number allotted or 0.
+// What a call returns: the register, as it was where the call is refused.
 #[derive(Drop)]
 pub struct Called {
     pub register: Register,
-    pub answer: u16,
-    pub number: u16,
+    pub answer: Answer,
+}
+
+// The answer as document 01 numbers it: 0, or the refusal's number.
+pub fn answer_number<T: Copy>(answer: Result<T, Refusal>) -> u16
+    ensures { result ≡ answer_no answer }
+{
+    match answer {
+        Ok(_) => 0,
+        Err(refusal) => u16::from(refusal),
+    }
+}
+
+// The number allotted, or 0.
+pub fn allotted_number(answer: Answer) -> u16
+    ensures { result ≡ number_no answer }
+{
+    match answer {
+        Ok(Some(number)) => number.0,
+        Ok(None) | Err(_) => 0,
+    }
 }

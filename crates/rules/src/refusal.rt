@@ -1,53 +1,43 @@
-// The refusals by document 01's words; 21 and 22 are 02's order 1, 23 its order 2, 24 its order 4, 25 its order 6.
-pub const SHORT_LINE: u16 = 1;
+// The refusals by document 01's words, each with its number; 21 and 22 are 02's order 1, 23 its order 2, 24 its order 4, 25 its order 6.
+ghost use Rattle.std.specs.Prelude.{◌≡◌};
+ghost use Rattle.rules.specs.Answer.{refusal_no};
 
-pub const NO_SUCH_CALL: u16 = 2;
+#[derive(Clone, Copy, Debug, PartialEq, Eq)]
+pub enum Refusal {
+    ShortLine = 1,
+    NoSuchCall = 2,
+    Field = 3,
+    Clock = 4,
+    NotLive = 5,
+    Stage = 6,
+    Officer = 7,
+    AlreadySo = 8,
+    Full = 9,
+    NoFacility = 10,
+    Unprotected = 11,
+    Occupied = 12,
+    Overlap = 13,
+    Site = 14,
+    Assurance = 15,
+    StillNeeded = 16,
+    NoTrain = 17,
+    Blocked = 18,
+    NotPiloted = 19,
+    Plan = 20,
+    Notice = 21,
+    Term = 22,
+    // The buffer is shorter than 33 lines of 73 bytes.
+    ShortPage = 23,
+    // The distance is under 500 or over 1000 metres.
+    Distance = 24,
+    // BOOK IN would restore a gate whose block is on.
+    BlockOn = 25,
+}
 
-pub const FIELD: u16 = 3;
+impl From<Refusal> for u16 {
+    ghost from_gives = { λ refusal number. number ≡ refusal_no refusal };
 
-pub const CLOCK: u16 = 4;
-
-pub const NOT_LIVE: u16 = 5;
-
-pub const STAGE: u16 = 6;
-
-pub const OFFICER: u16 = 7;
-
-pub const ALREADY_SO: u16 = 8;
-
-pub const FULL: u16 = 9;
-
-pub const NO_FACILITY: u16 = 10;
-
-pub const UNPROTECTED: u16 = 11;
-
-pub const OCCUPIED: u16 = 12;
-
-pub const OVERLAP: u16 = 13;
-
-pub const SITE: u16 = 14;
-
-pub const ASSURANCE: u16 = 15;
-
-pub const STILL_NEEDED: u16 = 16;
-
-pub const NO_TRAIN: u16 = 17;
-
-pub const BLOCKED: u16 = 18;
-
-pub const NOT_PILOTED: u16 = 19;
-
-pub const PLAN: u16 = 20;
-
-pub const NOTICE: u16 = 21;
-
-pub const TERM: u16 = 22;
-
-// The buffer is shorter than 33 lines of 73 bytes.
-pub const SHORT_PAGE: u16 = 23;
-
-// The distance is under 500 or over 1000 metres.
-pub const DISTANCE: u16 = 24;
-
-// BOOK IN would restore a gate whose block is on.
-pub const BLOCK_ON: u16 = 25;
+    fn from(refusal: Refusal) -> u16 {
+        refusal as u16
+    }
+}

@@ -1,6 +1,6 @@
 -- `authority_places::kind_of` meets its contract. Assumes nothing.
 use Rattle.std.proofs.Common.{ℕ, zero, suc, ◌≡◌, refl}
-use Rattle.rules.specs.declared.Kind.TheVariants.{Twa}
+use Rattle.rules.specs.declared.kind.Kind.TheVariants.{Twa}
 use Rattle.rules.specs.Call.{kind_of}
 use Rattle.authority_places.proofs.kind_of.Goals as goal
 

@@ -1,6 +1,6 @@
 -- `decode::kind_of` meets its contract. Assumes nothing.
 use Rattle.std.proofs.Common.{[], ◌∷◌}
-use Rattle.rules.specs.declared.Kind.TheVariants.{Lpa, Toa, Twa}
+use Rattle.rules.specs.declared.kind.Kind.TheVariants.{Lpa, Toa, Twa}
 use Rattle.decode.proofs.Table.{no_place}
 use Rattle.decode.proofs.kind_of.Goals as goal
 

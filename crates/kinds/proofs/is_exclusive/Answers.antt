@@ -1,7 +1,7 @@
 -- `kinds::is_exclusive` meets its contract: each kind but a TWA is exclusive. Assumes nothing.
 use Rattle.std.proofs.Common.{◌≡◌, refl, not}
-use Rattle.rules.specs.declared.Kind.{Kind}
-use Rattle.rules.specs.declared.Kind.TheVariants.{Lpa, Toa, Twa}
+use Rattle.rules.specs.declared.kind.Kind.{Kind}
+use Rattle.rules.specs.declared.kind.Kind.TheVariants.{Lpa, Toa, Twa}
 use Rattle.rules.specs.Board.{exclusive, is_twa}
 use Rattle.kinds.proofs.is_exclusive.Goals as goal
 
