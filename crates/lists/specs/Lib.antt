@@ -4,3 +4,4 @@ pub mod Prefix
 pub mod Places
 pub mod Distinct
 pub mod Order
+pub mod Each

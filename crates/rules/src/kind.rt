@@ -1,5 +1,6 @@
 // The kinds of authority, and their numbers in a call and on the sheet.
-ghost use Rattle.std.specs.Prelude.{◌≡◌, Ok, MatchResult};
+ghost use Rattle.std.specs.Prelude.{◌≡◌, ◌≢◌, MatchResult};
+ghost use Rattle.rules.specs.declared.kind.Kind.{Kind};
 ghost use Rattle.rules.specs.Board.{kind_no};
 
 // LPA and TOA are exclusive.
@@ -25,6 +26,8 @@ pub struct NoSuchKind;
 
 impl TryFrom<u16> for Kind {
     type Error = NoSuchKind;
+
+    ghost try_from_gives = { λ number r. MatchResult r (λ kind. kind_no kind ≡ number) (λ _. (kind : Kind) → kind_no kind ≢ number) };
 
     fn try_from(number: u16) -> Result<Kind, NoSuchKind> {
         match number {

@@ -8,10 +8,9 @@ ghost use Rattle.rules.specs.Answer.{answer_no, number_no};
 mod kind;
 mod refusal;
 
+use arrayvec::ArrayVec;
 pub use kind::Kind;
 pub use refusal::Refusal;
-
-use arrayvec::ArrayVec;
 
 // The four kinds of number that are never taken for one another: those of authorities, of trains, of gates, and of the papers that book a gate out of use.
 #[derive(Clone, Copy, Debug, Default, PartialEq, Eq)]
