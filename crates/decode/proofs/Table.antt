@@ -2,12 +2,18 @@
 use Prim.Native.Nat.{ℕ, zero, suc, ◌≤◌}
 use mathlib.Core.Path.{◌≡◌, refl, sym}
 use mathlib.Core.Bool.{Bool, true, false, not, ◌&&◌, ◌||◌}
-use mathlib.Core.List.{List, ◌∷◌}
+use mathlib.Core.List.{List, [], ◌∷◌}
 use native.Mathlib.Omega.{arith}
 use lib.Dec.{leb, ltb}
 use lib.ListN.{length, get_or, get_or-eq_default}
 use borrow.Author.Tests.{ltb-true, ltb-false, le-leb, lt-leb}
-use Rattle.rules.specs.Call.{calls, no_entry, entry_of, is_call}
+use Rattle.std.specs.Prelude.{Result, Ok, Err, MatchResult}
+use Rattle.std.specs.Result.{result_unwrap_or}
+use Rattle.rules.specs.declared.kind.Kind.{Kind}
+use Rattle.rules.specs.declared.kind.Kind.TheVariants.{Lpa, Toa, Twa}
+use Rattle.rules.specs.declared.kind.NoSuchKind.{NoSuchKind}
+use Rattle.rules.specs.Board.{kind_no}
+use Rattle.rules.specs.Call.{kind_of, calls, no_entry, entry_of, is_call}
 
 -- n is none of 1 to k, as the last arm of a `match` over them has it
 abbrev NoneOf : ℕ → ℕ → Type 0
@@ -39,3 +45,17 @@ neither false b = refl
 pub is_call_lem : (n : ℕ) → is_call n ≡ not (ltb n 1 || ltb 17 n)
 unfolding is_call calls
 is_call_lem n = rw (leb-not 1 n _ refl, leb-not n 17 _ refl) (neither (ltb n 1) (ltb 17 n))
+
+-- the kind with a number, and the TWA where none has it
+pub kind_found : (n : ℕ) (k : Kind) → kind_no k ≡ n → k ≡ kind_of n
+kind_found n Lpa e = rw (← e)
+kind_found n Toa e = rw (← e)
+kind_found n Twa e = rw (← e)
+
+pub no_kind : (n : ℕ) → ((k : Kind) → kind_no k ≡ n → ⊥) → Twa ≡ kind_of n
+no_kind n h = no_place Twa (Lpa ∷ Toa ∷ []) n ((tt, λ e. h Lpa (sym e)), λ e. h Toa (sym e))
+
+pub kind_or_twa : (n : ℕ) (r : Result Kind NoSuchKind) → MatchResult r (λ k. kind_no k ≡ n) (λ _. (k : Kind) → kind_no k ≡ n → ⊥)
+    → result_unwrap_or r Twa ≡ kind_of n
+kind_or_twa n (Ok k) e = kind_found n k e
+kind_or_twa n (Err x) h = no_kind n h

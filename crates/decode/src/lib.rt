@@ -5,10 +5,11 @@ ghost use Rattle.std.specs.Prelude.{◌≡◌};
 ghost use Rattle.rules.specs.Call.{kind_of, entry_of, named, decoded};
 
 use fields::is_in_form;
-use rules::{AuthorityNo, Call, Field, Form, GateNo, Kind, PaperNo, Seven, TrainNo};
+use rules::{AuthorityNo, Call, Field, Form, GateNo, Kind, PaperNo, Refusal, Seven, TrainNo};
 use stamps::is_stamp;
 
 // The kinds of the four fields of the call with that number.
+#[tactic(auto, unfolding(rules::specs::Call::entry_of, rules::specs::Call::calls))]
 fn form_of(call: u16) -> Form
     ensures { result ≡ (entry_of call).form }
 {
@@ -124,117 +125,114 @@ fn form_of(call: u16) -> Form
     }
 }
 
-// The kind with that number.
+// The kind with that number; one that no authority has, which no REQUEST in its ranges names, stands for a TWA.
+#[tactic(auto, using(crate::proofs::Table::kind_or_twa))]
 fn kind_of(n: u16) -> Kind
     ensures { result ≡ kind_of n }
 {
-    match n {
-        1 => Kind::Lpa,
-        2 => Kind::Toa,
-        _ => Kind::Twa,
-    }
+    Kind::try_from(n).unwrap_or(Kind::Twa)
 }
 
-// The call with its fields named.
-fn name(s: Seven) -> Call
+// The call with its fields named, where one has the number.
+#[tactic(auto, unfolding(rules::specs::Call::named, rules::specs::Call::entry_of, rules::specs::Call::calls))]
+fn name(s: Seven) -> Option<Call>
     ensures { result ≡ named s }
 {
-    let call = s.call;
-    match call {
-        1 => Call::Request {
+    match s.call {
+        1 => Some(Call::Request {
             kind: kind_of(s.a),
             first: s.b,
             last: s.c,
             officer: s.d,
-        },
-        2 => Call::Withdraw {
+        }),
+        2 => Some(Call::Withdraw {
             authority: AuthorityNo(s.a),
             officer: s.b,
-        },
-        3 => Call::Agree {
+        }),
+        3 => Some(Call::Agree {
             toa: AuthorityNo(s.a),
             twa: AuthorityNo(s.b),
             officer: s.c,
-        },
-        4 => Call::Block { gate: GateNo(s.a) },
-        5 => Call::Unblock { gate: GateNo(s.a) },
-        6 => Call::Grant {
+        }),
+        4 => Some(Call::Block { gate: GateNo(s.a) }),
+        5 => Some(Call::Unblock { gate: GateNo(s.a) }),
+        6 => Some(Call::Grant {
             authority: AuthorityNo(s.a),
             officer: s.b,
-        },
-        7 => Call::Clear {
+        }),
+        7 => Some(Call::Clear {
             authority: AuthorityNo(s.a),
             officer: s.b,
-        },
-        8 => Call::Reoccupy {
+        }),
+        8 => Some(Call::Reoccupy {
             authority: AuthorityNo(s.a),
             officer: s.b,
-        },
-        9 => Call::HandOver {
+        }),
+        9 => Some(Call::HandOver {
             authority: AuthorityNo(s.a),
             out: s.b,
             into: s.c,
-        },
-        10 => Call::Fulfil {
+        }),
+        10 => Some(Call::Fulfil {
             authority: AuthorityNo(s.a),
             officer: s.b,
             assurances: s.c,
-        },
-        11 => Call::Continue {
+        }),
+        11 => Some(Call::Continue {
             old: AuthorityNo(s.a),
             new: AuthorityNo(s.b),
             officer_old: s.c,
             officer_new: s.d,
-        },
-        12 => Call::Move {
+        }),
+        12 => Some(Call::Move {
             train: TrainNo(s.a),
             gate: GateNo(s.b),
             authority: AuthorityNo(s.c),
             officer: s.d,
-        },
-        13 => Call::Passed {
+        }),
+        13 => Some(Call::Passed {
             train: TrainNo(s.a),
-        },
-        14 => Call::Term {
+        }),
+        14 => Some(Call::Term {
             authority: AuthorityNo(s.a),
             day: s.b,
             time: s.c,
             length: s.d,
-        },
-        15 => Call::Join {
+        }),
+        15 => Some(Call::Join {
             twa: AuthorityNo(s.a),
             toa: AuthorityNo(s.b),
             officer: s.c,
             distance: s.d,
-        },
-        16 => Call::BookOut {
+        }),
+        16 => Some(Call::BookOut {
             gate: GateNo(s.a),
             paper: PaperNo(s.b),
-        },
-        17 => Call::BookIn {
+        }),
+        17 => Some(Call::BookIn {
             gate: GateNo(s.a),
             paper: PaperNo(s.b),
             certified: s.c == 1,
             new: PaperNo(s.d),
-        },
-        _ => Call::NoSuchCall,
+        }),
+        _ => None,
     }
 }
 
-// The call that the seven numbers are, on a board of that many portions and gates; NoSuchCall where no call has the number, BadField
-// where the stamp or a field is out of its range.
-pub fn decode(portions: u16, gates: usize, s: Seven) -> Call
+// The call that the seven numbers are, on a board of that many portions and gates: refused with 2 where no call has the number, with 3 where the
+// stamp or a field is out of its range.
+pub fn decode(portions: u16, gates: usize, s: Seven) -> Result<Call, Refusal>
     ensures { result ≡ decoded portions gates s }
 {
     let call = s.call;
     if (call < 1) | (17 < call) {
-        return Call::NoSuchCall;
+        return Err(Refusal::NoSuchCall);
     }
     if !is_stamp(s.day, s.time) {
-        return Call::BadField;
+        return Err(Refusal::Field);
     }
     if !is_in_form(portions, gates, form_of(call), s) {
-        return Call::BadField;
+        return Err(Refusal::Field);
     }
-    name(s)
+    name(s).ok_or(Refusal::NoSuchCall)
 }

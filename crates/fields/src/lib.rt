@@ -47,12 +47,8 @@ fn is_in_range(portions: u16, gates: usize, field: Field, s: Seven, value: u16) 
 pub fn is_in_form(portions: u16, gates: usize, f: Form, s: Seven) -> bool
     ensures { result ≡ in_form portions gates f s }
 {
-    let a = f.a;
-    let b = f.b;
-    let c = f.c;
-    let d = f.d;
-    is_in_range(portions, gates, a, s, s.a)
-        & is_in_range(portions, gates, b, s, s.b)
-        & is_in_range(portions, gates, c, s, s.c)
-        & is_in_range(portions, gates, d, s, s.d)
+    is_in_range(portions, gates, f.a, s, s.a)
+        & is_in_range(portions, gates, f.b, s, s.b)
+        & is_in_range(portions, gates, f.c, s, s.c)
+        & is_in_range(portions, gates, f.d, s, s.d)
 }

@@ -1,6 +1,7 @@
 -- The seven numbers of a call, what its fields are called, and their ranges (01, "The thirteen calls"; 02, order 1: TERM, order 4: JOIN, order 6:
 -- BOOK OUT and BOOK IN). Assumes nothing.
-use Rattle.std.specs.Prelude.{ℕ, Option, Some, None, Result, Ok, Err, ◌+◌, ◌*◌, ◌/◌, ◌%◌, Bool, true, cond, not, ◌&&◌, List, [], ◌∷◌, length, get_or, eqb, leb, ltb}
+use Rattle.std.specs.Prelude.{ℕ, Option, Some, None, Result, Err, ◌+◌, ◌*◌, ◌/◌, ◌%◌, Bool, true, cond, not, ◌&&◌, List, [], ◌∷◌, length, get_or, eqb, leb, ltb}
+use Rattle.std.specs.Option.{ok_or}
 use Rattle.rules.specs.declared.AuthorityNo.{AuthorityNo}
 use Rattle.rules.specs.declared.TrainNo.{TrainNo}
 use Rattle.rules.specs.declared.GateNo.{GateNo}
@@ -145,9 +146,5 @@ unfoldable pub in_ranges : ℕ → ℕ → Seven → Bool
 in_ranges P G s = is_day s.day && is_time s.time && in_form P G (entry_of s.call).form s
 
 -- the call read off the seven numbers on a board of P portions and G gates, or the refusal of its number or its fields
-abbrev pub or_no_call : Option Call → Result Call Refusal
-or_no_call (Some c) = Ok c
-or_no_call None = Err NoSuchCall
-
 unfoldable pub decoded : ℕ → ℕ → Seven → Result Call Refusal
-decoded P G s = cond (is_call s.call) (cond (in_ranges P G s) (or_no_call (named s)) (Err Word.Field)) (Err NoSuchCall)
+decoded P G s = cond (is_call s.call) (cond (in_ranges P G s) (ok_or (named s) NoSuchCall) (Err Word.Field)) (Err NoSuchCall)
