@@ -1,14 +1,18 @@
-// Searches in lists and changes of lists, over any type of element: definitions (specs/) and laws (proofs/), and the change of each element in its place.
+// Searches in lists and changes of lists, over any type of element: definitions (specs/) and laws (proofs/), and the change of the elements that
+// pass a test.
 #![tactic(auto)]
 
-ghost use Rattle.lists.specs.Each.{EachGives};
+ghost use Rattle.lists.specs.Each.{ChangedWhere};
 
-// Changes each element by f, in its place.
-pub fn update<T: Copy, F: Fn(T) -> T>(items: &mut [T], f: F)
-    requires { F.IsAlwaysCallable f }
-    ensures { EachGives (F.post f) items.old items.new }
+// Changes each element that passes the test by f, in its place; the others stay.
+pub fn change<T: Copy, P: Fn(T) -> bool, F: Fn(T) -> T>(items: &mut [T], test: P, f: F)
+    requires test { P.IsAlwaysCallable test }
+    requires change { F.IsAlwaysCallable f }
+    ensures { ChangedWhere (P.post test) (F.post f) items.old items.new }
 {
     for x in items.iter_mut() {
-        *x = f(*x);
+        if test(*x) {
+            *x = f(*x);
+        }
     }
 }
