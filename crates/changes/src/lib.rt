@@ -1,260 +1,75 @@
-// What the accepted calls do that change authorities, blocks or bookings and no train, in the register's arrays; the head that each leaves is handed
-// back.
+// What the accepted calls do that change authorities, blocks or bookings and no train.
 #![tactic(auto)]
 
-ghost use Rattle.std.specs.Prelude.{◌≡◌, ◌<◌};
+ghost use Rattle.std.specs.Prelude.{◌≡◌, ℕ, Some};
 ghost use Rattle.rules.specs.declared.Call.TheVariants as Call;
-ghost use Rattle.rules.specs.Effects.{booked_in};
-ghost use Rattle.places.specs.Places.{HeadBounds, register_in};
-ghost use Rattle.changes.specs.Effects.{EffectPost};
+ghost use Rattle.rules.specs.Board.{board_of, ended};
+ghost use Rattle.rules.specs.Effects.{booked_in, effect};
+ghost use Rattle.changes.specs.Room.{HasPlace};
 
-use amendments::Change;
-use places::Head;
-use rules::{Authority, AuthorityNo, Booking, GateNo, Kind, PaperNo};
+use arrayvec::ArrayVec;
+use lists::change;
+use rules::{Authority, AuthorityNo, Booking, GateNo, Kind, PaperNo, Register};
 use stamps::minute_of;
 
-pub fn request(
-    head: Head,
-    gates: &[u16; 320],
-    authorities: &mut [u64; 256],
-    trains: &mut [u16; 128],
-    kind: Kind,
-    first: u16,
-    last: u16,
-    officer: u16,
-) -> Head
-    requires { HeadBounds head × (head.live < 32) × (head.last < 9999) }
-    ensures { EffectPost (register_in head gates.now authorities.old trains.old) (Call.Request kind first last officer) (register_in result gates.now authorities.new trains.new) }
+// Takes out the authority with that number; the order of the others stays.
+pub fn end_authority(authorities: &mut ArrayVec<Authority, 32>, n: AuthorityNo)
+    ensures { authorities.new.items ≡ ended n.0 authorities.old.items }
 {
-    let number = head.last + 1;
-    let a = Authority {
-        number: AuthorityNo(number),
+    authorities.retain(|a| a.number != n);
+}
+
+pub fn request(register: &mut Register, kind: Kind, first: u16, last: u16, officer: u16)
+    requires { HasPlace (board_of register.old) }
+    ensures { board_of register.new ≡ effect (board_of register.old) (Some (Call.Request kind first last officer)) }
+{
+    register.last += 1;
+    register.authorities.push(Authority {
+        number: AuthorityNo(register.last),
         kind,
         limits: portions::run(first, last),
         officer,
-        in_force: false,
-        workers_on: false,
-        agreed: AuthorityNo(0),
-        start: 0,
-        length: 0,
-    };
-    amendments::add_authority(authorities, head.live, a);
-    let mut out = head;
-    out.live = head.live + 1;
-    out.last = number;
-    out
+        ..Authority::default()
+    });
 }
 
-pub fn withdraw(
-    head: Head,
-    gates: &[u16; 320],
-    authorities: &mut [u64; 256],
-    trains: &mut [u16; 128],
-    n: AuthorityNo,
-    officer: u16,
-) -> Head
-    requires { HeadBounds head }
-    ensures { EffectPost (register_in head gates.now authorities.old trains.old) (Call.Withdraw n officer) (register_in result gates.now authorities.new trains.new) }
+pub fn withdraw(register: &mut Register, n: AuthorityNo)
+    ensures { (officer : ℕ) → board_of register.new ≡ effect (board_of register.old) (Some (Call.Withdraw n officer)) }
 {
-    let mut out = head;
-    out.live = amendments::end_authority(authorities, head.live, n);
-    out
+    end_authority(&mut register.authorities, n);
 }
 
-pub fn agree(
-    head: Head,
-    gates: &[u16; 320],
-    authorities: &mut [u64; 256],
-    trains: &mut [u16; 128],
-    toa: AuthorityNo,
-    twa: AuthorityNo,
-    officer: u16,
-) -> Head
-    requires { HeadBounds head }
-    ensures { EffectPost (register_in head gates.now authorities.old trains.old) (Call.Agree toa twa officer) (register_in result gates.now authorities.new trains.new) }
+pub fn agree(register: &mut Register, toa: AuthorityNo, twa: AuthorityNo)
+    ensures { (officer : ℕ) → board_of register.new ≡ effect (board_of register.old) (Some (Call.Agree toa twa officer)) }
 {
-    amendments::amend(authorities, head.live, twa, Change::Agreed(toa));
-    head
-}
-
-pub fn block(
-    head: Head,
-    gates: &[u16; 320],
-    authorities: &mut [u64; 256],
-    trains: &mut [u16; 128],
-    g: GateNo,
-) -> Head
-    requires { HeadBounds head }
-    ensures { EffectPost (register_in head gates.now authorities.old trains.old) (Call.Block g) (register_in result gates.now authorities.new trains.new) }
-{
-    let mut out = head;
-    out.blocks = portions::with(head.blocks, g.0);
-    out
-}
-
-pub fn unblock(
-    head: Head,
-    gates: &[u16; 320],
-    authorities: &mut [u64; 256],
-    trains: &mut [u16; 128],
-    g: GateNo,
-) -> Head
-    requires { HeadBounds head }
-    ensures { EffectPost (register_in head gates.now authorities.old trains.old) (Call.Unblock g) (register_in result gates.now authorities.new trains.new) }
-{
-    let mut out = head;
-    out.blocks = portions::without(head.blocks, g.0);
-    out
-}
-
-pub fn grant(
-    head: Head,
-    gates: &[u16; 320],
-    authorities: &mut [u64; 256],
-    trains: &mut [u16; 128],
-    n: AuthorityNo,
-    officer: u16,
-) -> Head
-    requires { HeadBounds head }
-    ensures { EffectPost (register_in head gates.now authorities.old trains.old) (Call.Grant n officer) (register_in result gates.now authorities.new trains.new) }
-{
-    amendments::amend(authorities, head.live, n, Change::Granted);
-    head
-}
-
-pub fn clear(
-    head: Head,
-    gates: &[u16; 320],
-    authorities: &mut [u64; 256],
-    trains: &mut [u16; 128],
-    n: AuthorityNo,
-    officer: u16,
-) -> Head
-    requires { HeadBounds head }
-    ensures { EffectPost (register_in head gates.now authorities.old trains.old) (Call.Clear n officer) (register_in result gates.now authorities.new trains.new) }
-{
-    amendments::amend(authorities, head.live, n, Change::Site(false));
-    head
-}
-
-pub fn reoccupy(
-    head: Head,
-    gates: &[u16; 320],
-    authorities: &mut [u64; 256],
-    trains: &mut [u16; 128],
-    n: AuthorityNo,
-    officer: u16,
-) -> Head
-    requires { HeadBounds head }
-    ensures { EffectPost (register_in head gates.now authorities.old trains.old) (Call.Reoccupy n officer) (register_in result gates.now authorities.new trains.new) }
-{
-    amendments::amend(authorities, head.live, n, Change::Site(true));
-    head
-}
-
-pub fn hand_over(
-    head: Head,
-    gates: &[u16; 320],
-    authorities: &mut [u64; 256],
-    trains: &mut [u16; 128],
-    n: AuthorityNo,
-    out: u16,
-    into: u16,
-) -> Head
-    requires { HeadBounds head }
-    ensures { EffectPost (register_in head gates.now authorities.old trains.old) (Call.HandOver n out into) (register_in result gates.now authorities.new trains.new) }
-{
-    amendments::amend(authorities, head.live, n, Change::Officer(into));
-    head
-}
-
-pub fn term(
-    head: Head,
-    gates: &[u16; 320],
-    authorities: &mut [u64; 256],
-    trains: &mut [u16; 128],
-    n: AuthorityNo,
-    day: u16,
-    time: u16,
-    length: u16,
-) -> Head
-    requires { HeadBounds head }
-    ensures { EffectPost (register_in head gates.now authorities.old trains.old) (Call.Term n day time length) (register_in result gates.now authorities.new trains.new) }
-{
-    amendments::amend(
-        authorities,
-        head.live,
-        n,
-        Change::Term(minute_of(day, time), length),
+    change(
+        &mut register.authorities,
+        |a| a.number == twa,
+        |a| Authority { agreed: toa, ..a },
     );
-    head
 }
 
-pub fn join(
-    head: Head,
-    gates: &[u16; 320],
-    authorities: &mut [u64; 256],
-    trains: &mut [u16; 128],
-    twa: AuthorityNo,
-    toa: AuthorityNo,
-    officer: u16,
-    distance: u16,
-) -> Head
-    requires { HeadBounds head }
-    ensures { EffectPost (register_in head gates.now authorities.old trains.old) (Call.Join twa toa officer distance) (register_in result gates.now authorities.new trains.new) }
+pub fn block(register: &mut Register, g: GateNo)
+    ensures { board_of register.new ≡ effect (board_of register.old) (Some (Call.Block g)) }
 {
-    amendments::amend(authorities, head.live, toa, Change::Agreed(twa));
-    head
+    register.blocks = portions::with(register.blocks, g.0);
 }
 
-pub fn book_out(
-    head: Head,
-    gates: &mut [u16; 320],
-    authorities: &[u64; 256],
-    trains: &[u16; 128],
-    g: GateNo,
-    paper: PaperNo,
-) -> Head
-    requires { HeadBounds head }
-    ensures { EffectPost (register_in head gates.old authorities.now trains.now) (Call.BookOut g paper) (register_in result gates.new authorities.now trains.now) }
+pub fn unblock(register: &mut Register, g: GateNo)
+    ensures { board_of register.new ≡ effect (board_of register.old) (Some (Call.Unblock g)) }
 {
-    let booking = Booking {
-        paper,
-        replaced: PaperNo(0),
-    };
-    bookings::put_booking(gates, head.gate_count, g, booking);
-    head
+    register.blocks = portions::without(register.blocks, g.0);
 }
 
-// The booking that BOOK IN leaves: none where the gate is certified, else the new paper with the call's beside it.
-fn booked_in(paper: PaperNo, certified: bool, new: PaperNo) -> Booking
-    ensures { result ≡ booked_in paper certified new }
-{
-    if certified {
-        return Booking {
-            paper: PaperNo(0),
-            replaced: PaperNo(0),
-        };
-    }
-    Booking {
-        paper: new,
-        replaced: paper,
-    }
-}
-
-pub fn book_in(
-    head: Head,
-    gates: &mut [u16; 320],
-    authorities: &[u64; 256],
-    trains: &[u16; 128],
-    g: GateNo,
-    paper: PaperNo,
-    certified: bool,
-    new: PaperNo,
-) -> Head
-    requires { HeadBounds head }
-    ensures { EffectPost (register_in head gates.old authorities.now trains.now) (Call.BookIn g paper certified new) (register_in result gates.new authorities.now trains.now) }
-{
-    bookings::put_booking(gates, head.gate_count, g, booked_in(paper, certified, new));
-    head
+// Puts the authority with that number in force, with workers on.
+pub fn put_in_force(authorities: &mut [Authority], n: AuthorityNo) {
+    change(
+        authorities,
+        |a| a.number == n,
+        |a| Authority {
+            in_force: true,
+            workers_on: true,
+            ..a
+        },
+    );
 }

@@ -4,11 +4,17 @@
 
 ghost use Rattle.lists.specs.Each.{ChangedWhere};
 
+use arrayvec::ArrayVec;
+
 // Changes each element that passes the test by f, in its place; the others stay.
-pub fn change<T: Copy, P: Fn(T) -> bool, F: Fn(T) -> T>(items: &mut [T], test: P, f: F)
+pub fn change<T: Copy, const CAP: usize, P: Fn(T) -> bool, F: Fn(T) -> T>(
+    items: &mut ArrayVec<T, CAP>,
+    test: P,
+    f: F,
+)
     requires test { P.IsAlwaysCallable test }
     requires change { F.IsAlwaysCallable f }
-    ensures { ChangedWhere (P.post test) (F.post f) items.old items.new }
+    ensures { ChangedWhere (P.post test) (F.post f) items.old.items items.new.items }
 {
     for x in items.iter_mut() {
         if test(*x) {

@@ -5,5 +5,5 @@ use Rattle.lists.proofs.change.Given as goal
 -- the first elements are changed, the others not yet
 abbrev pub invariant-loop-x : goal.invariant-loop-x
 invariant-loop-x g l =
-    ChangedWhere (goal.P-post g l.test) (goal.F-post g l.f) (take l.x-index l.fn.items) (take l.x-index l.items)
-    × (drop l.x-index l.items ≡ drop l.x-index l.fn.items)
+    ChangedWhere (goal.P-post g l.test) (goal.F-post g l.f) (take l.x-index l.fn.items.items) (take l.x-index l.x-items)
+    × (drop l.x-index l.x-items ≡ drop l.x-index l.fn.items.items)

@@ -1,0 +1,8 @@
+-- The room that an effect asks for. Assumes nothing.
+use Rattle.std.specs.Prelude.{◌≡◌, ◌<◌, true, length}
+use Rattle.rules.specs.Board.{Board, is_outside, gate_at}
+
+-- a REQUEST: a place for one more authority, and a number for it
+pub record HasPlace (b : Board) : Type 0 where
+  pub place : length b.authorities < 32
+  pub number : b.last < 9999
