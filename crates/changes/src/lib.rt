@@ -1,10 +1,10 @@
 // What the accepted calls do that change authorities, blocks or bookings and no train.
 #![tactic(auto)]
 
-ghost use Rattle.std.specs.Prelude.{◌≡◌, ℕ, Some};
+ghost use Rattle.std.specs.Prelude.{◌≡◌, ℕ, Some, set};
 ghost use Rattle.rules.specs.declared.Call.TheVariants as Call;
-ghost use Rattle.rules.specs.Board.{board_of, ended};
-ghost use Rattle.rules.specs.Effects.{booked_in, effect};
+ghost use Rattle.rules.specs.Board.{board_of, amended, ended};
+ghost use Rattle.rules.specs.Effects.{booked_in, effect, granted};
 ghost use Rattle.changes.specs.Room.{HasPlace};
 
 use arrayvec::ArrayVec;
@@ -19,6 +19,21 @@ pub fn end_authority(authorities: &mut ArrayVec<Authority, 32>, n: AuthorityNo)
     authorities.retain(|a| a.number != n);
 }
 
+// Puts the authority with that number in force, with workers on.
+pub fn put_in_force(authorities: &mut ArrayVec<Authority, 32>, n: AuthorityNo)
+    ensures { authorities.new.items ≡ amended n.0 granted authorities.old.items }
+{
+    change(
+        authorities,
+        |a| a.number == n,
+        |a| Authority {
+            in_force: true,
+            workers_on: true,
+            ..a
+        },
+    );
+}
+
 pub fn request(register: &mut Register, kind: Kind, first: u16, last: u16, officer: u16)
     requires { HasPlace (board_of register.old) }
     ensures { board_of register.new ≡ effect (board_of register.old) (Some (Call.Request kind first last officer)) }
@@ -29,7 +44,11 @@ pub fn request(register: &mut Register, kind: Kind, first: u16, last: u16, offic
         kind,
         limits: portions::run(first, last),
         officer,
-        ..Authority::default()
+        in_force: false,
+        workers_on: false,
+        agreed: AuthorityNo(0),
+        start: 0,
+        length: 0,
     });
 }
 
@@ -61,15 +80,107 @@ pub fn unblock(register: &mut Register, g: GateNo)
     register.blocks = portions::without(register.blocks, g.0);
 }
 
-// Puts the authority with that number in force, with workers on.
-pub fn put_in_force(authorities: &mut [Authority], n: AuthorityNo) {
+pub fn grant(register: &mut Register, n: AuthorityNo)
+    ensures { (officer : ℕ) → board_of register.new ≡ effect (board_of register.old) (Some (Call.Grant n officer)) }
+{
+    put_in_force(&mut register.authorities, n);
+}
+
+pub fn clear(register: &mut Register, n: AuthorityNo)
+    ensures { (officer : ℕ) → board_of register.new ≡ effect (board_of register.old) (Some (Call.Clear n officer)) }
+{
     change(
-        authorities,
+        &mut register.authorities,
         |a| a.number == n,
         |a| Authority {
-            in_force: true,
+            workers_on: false,
+            ..a
+        },
+    );
+}
+
+pub fn reoccupy(register: &mut Register, n: AuthorityNo)
+    ensures { (officer : ℕ) → board_of register.new ≡ effect (board_of register.old) (Some (Call.Reoccupy n officer)) }
+{
+    change(
+        &mut register.authorities,
+        |a| a.number == n,
+        |a| Authority {
             workers_on: true,
             ..a
         },
     );
+}
+
+pub fn hand_over(register: &mut Register, n: AuthorityNo, into: u16)
+    ensures { (out : ℕ) → board_of register.new ≡ effect (board_of register.old) (Some (Call.HandOver n out into)) }
+{
+    change(
+        &mut register.authorities,
+        |a| a.number == n,
+        |a| Authority { officer: into, ..a },
+    );
+}
+
+pub fn term(register: &mut Register, n: AuthorityNo, day: u16, time: u16, length: u16)
+    ensures { board_of register.new ≡ effect (board_of register.old) (Some (Call.Term n day time length)) }
+{
+    let start = minute_of(day, time);
+    change(
+        &mut register.authorities,
+        |a| a.number == n,
+        |a| Authority { start, length, ..a },
+    );
+}
+
+pub fn join(register: &mut Register, twa: AuthorityNo, toa: AuthorityNo)
+    ensures { (officer distance : ℕ) → board_of register.new ≡ effect (board_of register.old) (Some (Call.Join twa toa officer distance)) }
+{
+    change(
+        &mut register.authorities,
+        |a| a.number == toa,
+        |a| Authority { agreed: twa, ..a },
+    );
+}
+
+// Stores the booking of the gate with that number, if the plan has such a gate.
+fn put_booking(bookings: &mut ArrayVec<Booking, 64>, g: GateNo, booking: Booking)
+    ensures { bookings.new.items ≡ set bookings.old.items g.0 booking }
+{
+    if let Some(place) = bookings.get_mut(g.0 as usize) {
+        *place = booking;
+    }
+}
+
+pub fn book_out(register: &mut Register, g: GateNo, paper: PaperNo)
+    ensures { board_of register.new ≡ effect (board_of register.old) (Some (Call.BookOut g paper)) }
+{
+    put_booking(
+        &mut register.bookings,
+        g,
+        Booking {
+            paper,
+            replaced: PaperNo(0),
+        },
+    );
+}
+
+// The booking that BOOK IN leaves: none where the gate is certified, else the new paper with the call's beside it.
+fn booked_in(paper: PaperNo, certified: bool, new: PaperNo) -> Booking
+    ensures { result ≡ booked_in paper certified new }
+{
+    if certified {
+        Booking::default()
+    } else {
+        Booking {
+            paper: new,
+            replaced: paper,
+        }
+    }
+}
+
+pub fn book_in(register: &mut Register, g: GateNo, paper: PaperNo, certified: bool, new: PaperNo)
+    ensures { board_of register.new ≡ effect (board_of register.old) (Some (Call.BookIn g paper certified new)) }
+{
+    put_booking(&mut register.bookings, g, booked_in(paper, certified, new));
 }

@@ -9,6 +9,9 @@ module _ {A : Type 0} where
   EachGives R (x ∷ xs) [] = ⊥
   EachGives R (x ∷ xs) (y ∷ ys) = R x y × EachGives R xs ys
 
-  -- an element that the test answers true for became one that F gives; the others are as they were
-  abbrev pub ChangedWhere : (A → Bool → Type 0) → (A → A → Type 0) → List A → List A → Type 0
-  ChangedWhere P F xs ys = EachGives (λ x y. (P x true × F x y) ⊎ (P x false × (y ≡ x))) xs ys
+  -- an element that the test answers true for became one that F gives, any other is as it was
+  abbrev pub ChangesTo : (A → Bool → Type 0) → (A → A → Type 0) → A → A → Type 0
+  ChangesTo P F x y = (P x true × F x y) ⊎ (P x false × (y ≡ x))
+
+  pub record ChangedWhere (P : A → Bool → Type 0) (F : A → A → Type 0) (xs ys : List A) : Type 0 where
+    pub each : EachGives (ChangesTo P F) xs ys
