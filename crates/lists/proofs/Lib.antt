@@ -5,3 +5,4 @@ pub mod Prefix
 pub mod Distinct
 pub mod Order
 pub mod Loops
+pub mod Finds
