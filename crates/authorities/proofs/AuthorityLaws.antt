@@ -3,7 +3,7 @@ use Prim.Native.Nat.{ℕ}
 use mathlib.Core.Path.{◌≡◌, sym, ap, ◌∙◌}
 use mathlib.Core.Bool.{true, false}
 use Rattle.std.specs.Prelude.{Option, Some, None, find, is_some}
-use Rattle.lists.specs.Search.{any, first}
+use Rattle.lists.specs.Search.{first}
 use Rattle.lists.proofs.Finds.{found_any, found_none, found_is}
 use Rattle.rules.specs.declared.Authority.{Authority}
 use Rattle.rules.specs.Board.{Board, is_authority, no_authority, live, authority}

@@ -41,32 +41,34 @@ pub fn is_overlapped(authorities: &[Authority], old: AuthorityNo, a: Authority) 
 pub fn is_still_needed(authorities: &[Authority], gate: Gate) -> bool
     ensures { result ≡ any (in_force_needs gate) authorities.now }
 {
-    authorities.iter().any(|x| x.in_force & gates::is_needed(x.limits, gate))
+    authorities
+        .iter()
+        .any(|a| a.in_force && gates::is_needed(a.limits, gate))
 }
 
 #[tactic(auto, unfolding(rules::specs::Refusals::is_e))]
 fn is_exclusive_at(a: Authority, p: u16) -> bool
     ensures { result ≡ is_e p a }
 {
-    a.in_force & (a.kind != Kind::Twa) & portions::has(a.limits, p)
+    a.in_force && a.kind != Kind::Twa && portions::has(a.limits, p)
 }
 
 #[tactic(auto, unfolding(rules::specs::Refusals::is_w))]
 fn is_twa_at(a: Authority, p: u16) -> bool
     ensures { result ≡ is_w p a }
 {
-    a.in_force & (a.kind == Kind::Twa) & portions::has(a.limits, p)
+    a.in_force && a.kind == Kind::Twa && portions::has(a.limits, p)
 }
 
-// x is in force, another than a and old, and shares a portion with a, and a rests on no agreement of x's officer: it is no TWA that has agreed the
-// TOA x, and no TOA that has joined the TWA x.
+// x is in force, another than a and old, and shares a portion with a, and a rests on no agreement of x's officer:
+// it is no TWA that has agreed the TOA x, and no TOA that has joined the TWA x.
 #[tactic(auto, unfolding(rules::specs::Refusals::clashes, rules::specs::Refusals::rests_on))]
 fn is_clashing(old: AuthorityNo, a: Authority, x: Authority) -> bool
     ensures { result ≡ clashes old.0 a x }
 {
     x.in_force
-        & (x.number != a.number)
-        & (x.number != old)
-        & portions::overlap(a.limits, x.limits)
-        & !(((a.kind == Kind::Twa) | (a.kind == Kind::Toa)) & (x.number == a.agreed))
+        && x.number != a.number
+        && x.number != old
+        && portions::overlap(a.limits, x.limits)
+        && !(matches!(a.kind, Kind::Twa | Kind::Toa) && x.number == a.agreed)
 }
