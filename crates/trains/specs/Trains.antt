@@ -2,8 +2,9 @@
 use Rattle.std.specs.Prelude.{ℕ, ◌≡◌, ◌⊎◌, Bool, true, false, List, [], ◌∷◌}
 use Rattle.rules.specs.declared.Train.{Train}
 
--- the test is made of each train at its head and then at its rear, in the order of the list, up to the first that passes, and the answer is whether
--- one does; `Passes t end b` says that the test of the train t at that end may answer b
+-- A search over trains and their ends: the test is made of each train at its head and then at its rear, in the order of
+-- the list, up to the first end that passes, and the answer is whether one does. `Passes t end b` says that the test of
+-- the train t at that end may answer b.
 unfoldable pub SearchesEnds : (Train → ℕ → Bool → Type 0) → List Train → Bool → Type 0
 SearchesEnds Passes [] result = result ≡ false
 SearchesEnds Passes (t ∷ ts) result =

@@ -24,13 +24,15 @@ pub fn find_train(trains: &[Train], n: TrainNo) -> Option<Train>
 }
 
 // A train touches the set of portions.
+#[tactic(auto, using(crate::proofs::TrainLaws::touching_by_ends))]
 pub fn is_any_touching(trains: &[Train], set: u64) -> bool
     ensures { result ≡ any (touches set) trains.now }
 {
-    is_any_end(trains, |_t, end| portions::has(set, end))
+    is_any_end(trains, |_, end| portions::has(set, end))
 }
 
 // A train is in the way of a CONTINUE from old to a (refusal 12).
+#[tactic(auto, using(crate::proofs::TrainLaws::in_the_way_by_ends))]
 pub fn is_any_in_the_way(trains: &[Train], old: AuthorityNo, a: Authority) -> bool
     ensures { result ≡ any (in_the_way old.0 a) trains.now }
 {
@@ -41,6 +43,7 @@ pub fn is_any_in_the_way(trains: &[Train], old: AuthorityNo, a: Authority) -> bo
 }
 
 // Another train than n touches the portion.
+#[tactic(auto, using(crate::proofs::TrainLaws::another_by_ends))]
 pub fn is_another_at(trains: &[Train], n: TrainNo, p: u16) -> bool
     ensures { result ≡ any (is_other_at n.0 p) trains.now }
 {
