@@ -1,47 +1,51 @@
 -- What the answer of a search over the authorities says, in the rules' words. Assumes nothing.
 use Prim.Native.Nat.{ℕ}
-use mathlib.Core.Path.{◌≡◌, refl, sym, ◌∙◌}
-use mathlib.Core.Bool.{Bool, true, false}
-use mathlib.Core.List.{List}
-use Rattle.lists.specs.Search.{any, first}
-use Rattle.lists.specs.Prefix.{prefix}
+use mathlib.Core.Path.{◌≡◌, sym, ap, ◌∙◌}
+use mathlib.Core.Bool.{true, false}
+use Rattle.std.specs.Prelude.{Option, Some, None, find, is_some}
+use Rattle.lists.specs.Search.{first}
+use Rattle.lists.proofs.Finds.{found_any, found_none, found_is}
 use Rattle.rules.specs.declared.Authority.{Authority}
-use Rattle.rules.specs.declared.Register.{Register}
-use Rattle.rules.specs.Board.{board_of, is_authority, no_authority, live, authority}
-use Rattle.rules.specs.Refusals.{not_live}
-use Rattle.authorities.specs.declared.Found.{Found}
-use Rattle.authorities.specs.declared.Found.TheVariants.{Is, Nothing}
-use Rattle.authorities.specs.Authorities.{found_in, is_in}
-use Rattle.lists.proofs.Loops.{Searches, search_any, Tells, search_is, search_none}
-
--- the answer is the first that passes, where some does
-pub found_searches : (test : Authority → Bool) → Searches test Is Nothing (found_in test)
-unfolding found_in
-found_searches test = record { of_none = refl; of_one = λ x xs. refl }
-
--- the search finds one just where some element passes
-pub found_any : (test : Authority → Bool) (l : List Authority) → is_in (found_in test l) ≡ any test l
-unfolding is_in
-found_any test l = search_any (found_searches test) is_in refl (λ x. refl) no_authority l
-
--- it finds none: no element passes; it finds a: some element passes, and a is the first that does
-found_tells : Tells Is Nothing
-found_tells = record { apart = λ x e. cc; same = λ x y e. cc }
-
-pub found_none : (test : Authority → Bool) (l : List Authority) → found_in test l ≡ Nothing → any test l ≡ false
-found_none test l e = search_none (found_searches test) found_tells no_authority l e
-
-pub found_is : (test : Authority → Bool) (l : List Authority) {a : Authority} → found_in test l ≡ Is a
-    → (any test l ≡ true) × (first test no_authority l ≡ a)
-found_is test l e = search_is (found_searches test) found_tells no_authority l e
+use Rattle.rules.specs.Board.{Board, is_authority, no_authority, live, authority}
+use Rattle.rules.specs.Refusals.{not_live, is_e, is_w, any_e, any_w, the_w}
 
 -- ---- the authority with a number, looked for
 
-module _ (r : Register) (n : ℕ) {f : Found} (e : f ≡ found_in (is_authority n) (prefix r.live r.authorities)) where
-  pub not_found : f ≡ Nothing → not_live (board_of r) n ≡ true
-  unfolding not_live live board_of
-  not_found none' = rw (found_none _ _ (sym e ∙ none'))
+module _ (b : Board) (n : ℕ) {f : Option Authority} (looked : f ≡ find (is_authority n) b.authorities) where
+  pub not_found : f ≡ None → not_live b n ≡ true
+  unfolding not_live live
+  not_found none = rw (found_none (is_authority n) b.authorities (sym looked ∙ none))
 
-  pub found : {a : Authority} → f ≡ Is a → (not_live (board_of r) n ≡ false) × (authority (board_of r) n ≡ a)
-  unfolding not_live live authority board_of
-  found is = let h = found_is _ _ (sym e ∙ is) in (rw h.0, h.1)
+  pub found : {a : Authority} → f ≡ Some a → (not_live b n ≡ false) × (authority b n ≡ a)
+  unfolding not_live live authority
+  found is = let h = found_is (is_authority n) no_authority b.authorities (sym looked ∙ is) in (rw h.0, h.1)
+
+-- ---- E, looked for
+
+module _ (b : Board) (p : ℕ) {e : Option Authority} (looked : e ≡ find (is_e p) b.authorities) where
+  pub is_some-e : is_some e ≡ any_e b p
+  unfolding any_e
+  is_some-e = ap is_some looked ∙ found_any (is_e p) b.authorities
+
+  pub no_e : e ≡ None → any_e b p ≡ false
+  unfolding any_e
+  no_e none = found_none (is_e p) b.authorities (sym looked ∙ none)
+
+  pub is_the_e : {a : Authority} → e ≡ Some a → (any_e b p ≡ true) × (first (is_e p) no_authority b.authorities ≡ a)
+  unfolding any_e
+  is_the_e is = found_is (is_e p) no_authority b.authorities (sym looked ∙ is)
+
+-- ---- W, looked for
+
+module _ (b : Board) (p : ℕ) {w : Option Authority} (looked : w ≡ find (is_w p) b.authorities) where
+  pub is_some-w : is_some w ≡ any_w b p
+  unfolding any_w
+  is_some-w = ap is_some looked ∙ found_any (is_w p) b.authorities
+
+  pub no_w : w ≡ None → any_w b p ≡ false
+  unfolding any_w
+  no_w none = found_none (is_w p) b.authorities (sym looked ∙ none)
+
+  pub is_the_w : {a : Authority} → w ≡ Some a → (any_w b p ≡ true) × (the_w b p ≡ a)
+  unfolding any_w the_w
+  is_the_w is = found_is (is_w p) no_authority b.authorities (sym looked ∙ is)

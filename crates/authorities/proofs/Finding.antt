@@ -5,14 +5,10 @@ use mathlib.Core.Path.{◌≡◌, refl, sym, ◌∙◌}
 use mathlib.Core.Bool.{Bool, true, false, not, ◌||◌}
 use mathlib.Core.List.{List, [], ◌∷◌}
 use borrow.Author.Tests.{eq-eqb, ne_eqb}
-use Rattle.lists.specs.Prefix.{prefix}
+use Rattle.std.specs.Prelude.{Option, Some, None, find}
 use Rattle.rules.specs.declared.Authority.{Authority}
-use Rattle.rules.specs.declared.Register.{Register}
-use Rattle.rules.specs.Board.{board_of, is_authority, authority}
+use Rattle.rules.specs.Board.{Board, is_authority, authority}
 use Rattle.rules.specs.Refusals.{Refusal, ◌when◌, lowest, not_live}
-use Rattle.authorities.specs.declared.Found.{Found}
-use Rattle.authorities.specs.declared.Found.TheVariants.{Is, Nothing}
-use Rattle.authorities.specs.Authorities.{found_in}
 use Rattle.authorities.proofs.AuthorityLaws.{not_found, found}
 
 -- ---- the first refusal that holds
@@ -45,28 +41,28 @@ pub ruleset refusals = (holds, fails, none, not_of_false, not_of_true, of_call, 
 -- ---- the authority with a number, looked for
 
 -- a call that names it alone is answered 5 where it is not live, else by its other refusals, of the authority found
-module _ (r : Register) (n : ℕ) (rs : List Refusal) {f : Found} (e : f ≡ found_in (is_authority n) (prefix r.live r.authorities)) where
-  pub not_live_lem : f ≡ Nothing → 5 ≡ lowest (5 when not_live (board_of r) n ∷ rs)
-  not_live_lem none' = holds 5 _ rs (not_found r n e none')
+module _ (b : Board) (n : ℕ) (rs : List Refusal) {f : Option Authority} (looked : f ≡ find (is_authority n) b.authorities) where
+  pub not_live_lem : f ≡ None → 5 ≡ lowest (5 when not_live b n ∷ rs)
+  not_live_lem none' = holds 5 _ rs (not_found b n looked none')
 
-  pub is_live : {a : Authority} {v : ℕ} → f ≡ Is a → (authority (board_of r) n ≡ a → v ≡ lowest rs) → v ≡ lowest (5 when not_live (board_of r) n ∷ rs)
-  is_live is decided = let h = found r n e is in fails 5 _ _ rs h.0 (decided h.1)
+  pub is_live : {a : Authority} {v : ℕ} → f ≡ Some a → (authority b n ≡ a → v ≡ lowest rs) → v ≡ lowest (5 when not_live b n ∷ rs)
+  is_live is decided = let h = found b n looked is in fails 5 _ _ rs h.0 (decided h.1)
 
 -- one that names two is answered 5 where either is not live, else by its other refusals, of the two found
-module _ (r : Register) (n m : ℕ) (rs : List Refusal) {f : Found} (e : f ≡ found_in (is_authority n) (prefix r.live r.authorities)) where
-  pub first_not_live : f ≡ Nothing → 5 ≡ lowest (5 when (not_live (board_of r) n || not_live (board_of r) m) ∷ rs)
+module _ (b : Board) (n m : ℕ) (rs : List Refusal) {f : Option Authority} (looked : f ≡ find (is_authority n) b.authorities) where
+  pub first_not_live : f ≡ None → 5 ≡ lowest (5 when (not_live b n || not_live b m) ∷ rs)
   unfolding lowest
-  first_not_live none' = rw (not_found r n e none')
+  first_not_live none' = rw (not_found b n looked none')
 
-  module _ {a : Authority} (is : f ≡ Is a) {g : Found} (d : g ≡ found_in (is_authority m) (prefix r.live r.authorities)) where
-    pub second_not_live : g ≡ Nothing → 5 ≡ lowest (5 when (not_live (board_of r) n || not_live (board_of r) m) ∷ rs)
+  module _ {a : Authority} (is : f ≡ Some a) {g : Option Authority} (looked_too : g ≡ find (is_authority m) b.authorities) where
+    pub second_not_live : g ≡ None → 5 ≡ lowest (5 when (not_live b n || not_live b m) ∷ rs)
     unfolding lowest
-    second_not_live none' = rw ((found r n e is).0, not_found r m d none')
+    second_not_live none' = rw ((found b n looked is).0, not_found b m looked_too none')
 
-    pub both_live : {c : Authority} {v : ℕ} → g ≡ Is c → (authority (board_of r) n ≡ a → authority (board_of r) m ≡ c → v ≡ lowest rs)
-        → v ≡ lowest (5 when (not_live (board_of r) n || not_live (board_of r) m) ∷ rs)
+    pub both_live : {c : Authority} {v : ℕ} → g ≡ Some c → (authority b n ≡ a → authority b m ≡ c → v ≡ lowest rs)
+        → v ≡ lowest (5 when (not_live b n || not_live b m) ∷ rs)
     unfolding lowest
     both_live is' decided =
-        let h = found r n e is in
-        let k = found r m d is' in
+        let h = found b n looked is in
+        let k = found b m looked_too is' in
         rw (h.0, k.0) (decided h.1 k.1)

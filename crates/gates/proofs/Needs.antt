@@ -1,22 +1,19 @@
 -- Laws of the gates that limits need, as a set: what callers cite, and the steps of the loop that builds it. Assumes nothing.
-use mathlib.Core.Path.{◌≡◌, sym, ap, ◌∙◌}
-use mathlib.Core.Bool.{true, false, not, ◌&&◌, and_assoc, not-not}
+use mathlib.Core.Path.{◌≡◌, sym, ◌∙◌}
+use mathlib.Core.Bool.{not, ◌&&◌, and_assoc, not-not}
 use mathlib.Core.List.{List}
-use Prim.Native.Nat.{ℕ, ◌+◌, ◌≤◌, ◌<◌}
+use Prim.Native.Nat.{ℕ, ◌≤◌}
 use native.Mathlib.Omega.{arith}
 use borrow.Author.Tests.{lt-ltb, ltb-true}
 use lib.Dec.{ltb}
 use lib.ListN.{length}
-use lib.Seq.{get_or-take}
-use Rattle.lists.specs.Prefix.{prefix}
 use Rattle.lists.proofs.Tests.{same_test, and_l, and_r, and_i}
 use Rattle.lists.proofs.Search.{some_below, below_some}
-use Rattle.lists.proofs.Prefix.{length-prefix}
-use Rattle.portions.specs.Sets.{has, set_of, insert, subset, in_first_only}
-use Rattle.portions.proofs.Laws.{has-set_of, set_of_next_in, set_of_next_out}
+use Rattle.portions.specs.Sets.{has, subset, in_first_only}
+use Rattle.portions.proofs.Laws.{has-set_of, set_of_start, set_of_next_in, set_of_next_out}
 use Rattle.rules.specs.declared.Gate.{Gate}
 use Rattle.rules.specs.declared.Authority.{Authority}
-use Rattle.rules.specs.Board.{Board, needs, no_gate, gate_at}
+use Rattle.rules.specs.Board.{Board, needs, gate_at}
 use Rattle.rules.specs.Refusals.{is_open, unprotected}
 use Rattle.gates.specs.Needs.{is_needed, needed_of}
 
@@ -40,26 +37,7 @@ unprotected-subset b a few =
     let q = sym (same g) ∙ p in
     below_some _ unblocked g (ltb-true g _ (and_l _ _ q)) (and_r (ltb g _) _ q)))
 
--- ---- the loop that builds the set of the first `count` gates of an array
+-- ---- the loop that builds the set
 
--- what it has at gate i: the needed ones before i
-abbrev pub needed_to : List Gate → ℕ → ℕ → ℕ → ℕ
-needed_to gates count limits i = set_of i (is_needed limits (prefix count gates))
-
--- gate i is needed, and is put in; it is not, and the set stays
-module _ (gates : List Gate) (count limits i : ℕ) (more : i < count) where
-  here : is_needed limits (prefix count gates) i ≡ needs limits (gate_at gates i)
-  unfolding prefix
-  here = ap (needs limits) (get_or-take count gates i no_gate more)
-
-  pub needed_next : count ≤ 64 → needs limits (gate_at gates i) ≡ true → insert i (needed_to gates count limits i) ≡ needed_to gates count limits (i + 1)
-  needed_next few e = set_of_next_in i _ (omega arith) (here ∙ e)
-
-  pub needed_same : needs limits (gate_at gates i) ≡ false → needed_to gates count limits i ≡ needed_to gates count limits (i + 1)
-  needed_same e = set_of_next_out i _ (here ∙ e)
-
--- past the last gate it is the whole set
-pub needed_all : (gates : List Gate) (count limits i : ℕ) → count ≤ length gates → i ≡ count
-    → needed_to gates count limits i ≡ needed_of (prefix count gates) limits
-unfolding needed_of
-needed_all gates count limits i h e = rw (length-prefix gates count h, e)
+-- for `search`: the set of the needed gates before the first is empty, and at each gate it takes that gate in or stays
+pub ruleset building = (set_of_start, set_of_next_in, set_of_next_out)

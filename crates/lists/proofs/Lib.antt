@@ -6,3 +6,4 @@ pub mod Distinct
 pub mod Order
 pub mod Loops
 pub mod Each
+pub mod Finds

@@ -1,62 +1,69 @@
--- What the answer of a search over the trains says, and what each query asks, in the rules' words. Assumes nothing.
+-- What the answer of a search over the trains says, in the rules' words. Assumes nothing.
 use Prim.Native.Nat.{ℕ}
-use mathlib.Core.Path.{◌≡◌, refl, sym, ap, fun_ext, ◌∙◌}
-use mathlib.Core.Bool.{Bool, true, false, or-false, and_assoc, and-or_distrib_left, and-or_distrib_right}
+use mathlib.Core.Path.{◌≡◌, sym, refl, ◌∙◌}
+use mathlib.Core.Logic.{inl, inr}
+use mathlib.Core.Bool.{Bool, true, false, not, ◌&&◌, ◌||◌, and_assoc, and-or_distrib_left, and-or_distrib_right}
 use mathlib.Core.List.{List, [], ◌∷◌}
-use Rattle.lists.specs.Search.{any, first}
-use Rattle.lists.specs.Prefix.{prefix}
-use Rattle.rules.specs.declared.AuthorityNo.{AuthorityNo}
+use Rattle.std.specs.Prelude.{Option, Some, None, find, eqb}
+use Rattle.lists.specs.Search.{any}
+use Rattle.lists.proofs.Finds.{found_none, found_is}
 use Rattle.rules.specs.declared.TrainNo.{TrainNo}
 use Rattle.rules.specs.declared.Authority.{Authority}
 use Rattle.rules.specs.declared.Train.{Train}
-use Rattle.rules.specs.declared.Register.{Register}
-use Rattle.rules.specs.Board.{Board, board_of, no_train, is_train, on_board, train, touches, touches_portion}
+use Rattle.portions.specs.Sets.{has}
+use Rattle.rules.specs.Board.{Board, touches, touches_portion, is_outside, is_twa, no_train, is_train, on_board, train}
 use Rattle.rules.specs.Refusals.{in_the_way, is_other_at}
-use Rattle.trains.specs.declared.TrainQuery.{TrainQuery}
-use Rattle.trains.specs.declared.TrainQuery.TheVariants.{Touching, InTheWay, OtherAt}
-use Rattle.trains.specs.declared.FoundTrain.{FoundTrain}
-use Rattle.trains.specs.declared.FoundTrain.TheVariants.{Is, Nothing}
-use Rattle.trains.specs.Trains.{end_passes, train_passes, found_train}
-use Rattle.lists.proofs.Loops.{Searches, Tells, search_is, search_none}
+use Rattle.trains.specs.Trains.{SearchesEnds}
 
--- ---- the train found, by the searches of the rules
+-- ---- the ends of the trains, searched
 
--- the answer is the first that passes, where some does
-pub train_searches : (test : Train → Bool) → Searches test Is Nothing (found_train test)
-unfolding found_train
-train_searches test = record { of_none = refl; of_one = λ t ts. refl }
+-- where the test of a train at an end answers `by`, and a train passes where one of its ends does, the search answers
+-- whether some train passes
+any_by_ends : (Passes : Train → ℕ → Bool → Type 0) (ts : List Train) (r : Bool) → SearchesEnds Passes ts r
+    → (by : Train → ℕ → Bool) (test : Train → Bool)
+    → ((t : Train) (end : ℕ) (b : Bool) → Passes t end b → b ≡ by t end)
+    → ((t : Train) → (by t t.head || by t t.rear) ≡ test t)
+    → r ≡ any test ts
+unfolding SearchesEnds
+any_by_ends Passes [] r s by test answers either = s
+any_by_ends Passes (t ∷ ts) r (inl (head, met)) by test answers either =
+    rw (met, ← either t, ← answers t t.head true head)
+any_by_ends Passes (t ∷ ts) r (inr (inl (head, rear, met))) by test answers either =
+    rw (met, ← either t, ← answers t t.head false head, ← answers t t.rear true rear)
+any_by_ends Passes (t ∷ ts) r (inr (inr (head, rear, rest))) by test answers either =
+    rw (← either t, ← answers t t.head false head, ← answers t t.rear false rear)
+    (any_by_ends Passes ts r rest by test answers either)
 
--- it finds none: no train passes; it finds t: some train passes, and t is the first that does
-train_tells : Tells Is Nothing
-train_tells = record { apart = λ x e. cc; same = λ x y e. cc }
+-- the tests of a train at an end: it is in the way of a CONTINUE by that end, or is another at the portion by it
+abbrev end_in_the_way : ℕ → Authority → Train → ℕ → Bool
+end_in_the_way old a t end = has end a.limits && (is_twa a.kind || not (eqb t.with.0 old) || not (has t.head a.limits))
 
-pub train_none : (test : Train → Bool) (l : List Train) → found_train test l ≡ Nothing → any test l ≡ false
-train_none test l e = search_none (train_searches test) train_tells no_train l e
+abbrev end_of_another : ℕ → ℕ → Train → ℕ → Bool
+end_of_another n p t end = not (is_train n t) && not (is_outside p) && eqb end p
 
-pub train_is : (test : Train → Bool) (l : List Train) {t : Train} → found_train test l ≡ Is t → (any test l ≡ true) × (first test no_train l ≡ t)
-train_is test l e = search_is (train_searches test) train_tells no_train l e
+-- the three searches, for the check: by what the closure that makes the test answers
+module _ (Passes : Train → ℕ → Bool → Type 0) (ts : List Train) (r : Bool) (searched : SearchesEnds Passes ts r) where
+  -- a train that touches the set
+  pub touching_by_ends : (set : ℕ) → ((t : Train) (end : ℕ) (b : Bool) → Passes t end b → b ≡ has end set)
+      → r ≡ any (touches set) ts
+  unfolding touches
+  touching_by_ends set answers = any_by_ends Passes ts r searched (λ t end. has end set) _ answers (λ t. refl)
 
--- ---- what each query asks
+  -- one in the way of a CONTINUE
+  pub in_the_way_by_ends : (old : ℕ) (a : Authority)
+      → ((t : Train) (end : ℕ) (b : Bool) → Passes t end b → b ≡ end_in_the_way old a t end)
+      → r ≡ any (in_the_way old a) ts
+  unfolding in_the_way touches
+  in_the_way_by_ends old a answers =
+      any_by_ends Passes ts r searched (end_in_the_way old a) _ answers (λ t. rw and-or_distrib_right)
 
--- a train that touches the set
-pub any_touching : (set : ℕ) (ts : List Train) → any (train_passes (Touching set)) ts ≡ any (touches set) ts
-unfolding train_passes end_passes touches
-any_touching set ts = refl
-
--- a train in the way of a CONTINUE
-pub any-in_the_way : (old : AuthorityNo) (a : Authority) (ts : List Train) → any (train_passes (InTheWay old a)) ts ≡ any (in_the_way old.0 a) ts
-unfolding train_passes end_passes in_the_way touches
-any-in_the_way old a ts = ap (λ (test : Train → Bool). any test ts) (fun_ext (λ t. rw and-or_distrib_right))
-
--- another train that touches the portion
-pub any_other_at : (n : TrainNo) (p : ℕ) (ts : List Train) → any (train_passes (OtherAt n p)) ts ≡ any (is_other_at n.0 p) ts
-unfolding train_passes end_passes is_other_at touches_portion
-any_other_at n p ts = ap (λ (test : Train → Bool). any test ts) (fun_ext (λ t. simp (and_assoc, and-or_distrib_left)))
-
--- a train passes where one of its ends, head and rear, does
-pub either_end : (q : TrainQuery) (t : Train) → train_passes q t ≡ any (end_passes q t) (prefix 2 (t.head ∷ t.rear ∷ []))
-unfolding train_passes prefix
-either_end q t = rw or-false
+  -- another that touches the portion
+  pub another_by_ends : (n p : ℕ)
+      → ((t : Train) (end : ℕ) (b : Bool) → Passes t end b → b ≡ end_of_another n p t end)
+      → r ≡ any (is_other_at n p) ts
+  unfolding is_other_at touches_portion
+  another_by_ends n p answers =
+      any_by_ends Passes ts r searched (end_of_another n p) _ answers (λ t. simp (and_assoc, and-or_distrib_left))
 
 -- ---- the train with a number, looked for
 
@@ -65,11 +72,11 @@ pub record There (b : Board) (n : TrainNo) (t : Train) : Type 0 where
   pub on : on_board b n.0 ≡ true
   pub is : train b n.0 ≡ t
 
-module _ (r : Register) (n : TrainNo) {f : FoundTrain} (looked : f ≡ found_train (is_train n.0) (prefix r.running r.trains)) where
-  pub train_there : {t : Train} → f ≡ Is t → There (board_of r) n t
-  unfolding board_of on_board train
-  train_there {t} e = let h = train_is (is_train n.0) (board_of r).trains (sym looked ∙ e) in record { on = h.0; is = h.1 }
+module _ (b : Board) (n : TrainNo) {f : Option Train} (looked : f ≡ find (is_train n.0) b.trains) where
+  pub train_there : {t : Train} → f ≡ Some t → There b n t
+  unfolding on_board train
+  train_there is = let h = found_is (is_train n.0) no_train b.trains (sym looked ∙ is) in record { on = h.0; is = h.1 }
 
-  pub train_missing : f ≡ Nothing → on_board (board_of r) n.0 ≡ false
-  unfolding board_of on_board
-  train_missing e = train_none (is_train n.0) (board_of r).trains (sym looked ∙ e)
+  pub train_missing : f ≡ None → on_board b n.0 ≡ false
+  unfolding on_board
+  train_missing none = found_none (is_train n.0) b.trains (sym looked ∙ none)

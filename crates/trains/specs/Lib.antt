@@ -1,2 +1,2 @@
--- The definitions that the contracts of this crate cite beside those of rules and authorities.
+-- The definition that the contract of the search over the ends cites, beside those of rules.
 pub mod Trains

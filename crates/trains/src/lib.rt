@@ -1,91 +1,69 @@
-// The trains on the board, a dense prefix of the places by ascending number: searches.
+// The trains on the board, by ascending number: searches. Each is left when what it looks for is found.
 #![tactic(auto)]
 
-ghost use Rattle.std.specs.Prelude.{◌≡◌, ◌≤◌};
+ghost use Rattle.std.specs.Prelude.{◌≡◌, find};
 ghost use Rattle.lists.specs.Search.{any};
-ghost use Rattle.lists.specs.Prefix.{prefix};
-ghost use Rattle.rules.specs.Board.{is_train};
-ghost use Rattle.places.specs.Places.{trains_in};
-ghost use Rattle.trains.specs.Trains.{end_passes, train_passes, found_train};
+ghost use Rattle.rules.specs.Board.{is_train, touches};
+ghost use Rattle.rules.specs.Refusals.{in_the_way, is_other_at};
+ghost use Rattle.trains.specs.Trains.{SearchesEnds};
 
-use kinds::is_twa;
-use places::train_at;
-use rules::{Authority, AuthorityNo, Train, TrainNo};
+use rules::{Authority, AuthorityNo, Kind, Train, TrainNo};
 
-// What is looked for among the trains, at their head or their rear.
-#[derive(Clone, Copy)]
-pub enum TrainQuery {
-    // one that touches the set of portions
-    Touching(u64),
-    // one in the way of a CONTINUE from the first authority to the second (refusal 12)
-    InTheWay(AuthorityNo, Authority),
-    // another than the train that touches the portion
-    OtherAt(TrainNo, u16),
-}
-
-#[derive(Clone, Copy)]
-pub enum FoundTrain {
-    Is(Train),
-    Nothing,
-}
-
-// The train is what is looked for by its end (its head or its rear).
-fn passes_at(q: TrainQuery, t: Train, end: u16) -> bool
-    ensures { result ≡ end_passes q t end }
+// The train with that number.
+pub fn find_train(trains: &[Train], n: TrainNo) -> Option<Train>
+    ensures { result ≡ find (is_train n.0) trains.now }
 {
-    match q {
-        TrainQuery::Touching(set) => portions::has(set, end),
-        TrainQuery::InTheWay(old, a) => is_in_the_way(old, a, t, end),
-        TrainQuery::OtherAt(n, p) => (t.number.0 != n.0) & (p != 99) & (end == p),
-    }
-}
-
-// The end is in the limits of the new authority, and it is a TWA, or the train isn't with old, or its head isn't in them.
-fn is_in_the_way(old: AuthorityNo, a: Authority, t: Train, end: u16) -> bool
-    ensures { result ≡ end_passes (TrainQuery.InTheWay old a) t end }
-{
-    let kind = a.kind;
-    portions::has(a.limits, end)
-        & (is_twa(kind) | (t.with.0 != old.0) | !portions::has(a.limits, t.head))
-}
-
-// The train with that number; the search is left when it is found.
-pub fn find_train(trains: &[u16; 128], running: usize, n: TrainNo) -> FoundTrain
-    requires { running ≤ 32 }
-    ensures { result ≡ found_train (is_train n.0) (prefix running (trains_in trains.now)) }
-{
-    let mut found = FoundTrain::Nothing;
-    let mut i: usize = 0;
-    'search: while i < running {
-        let t = train_at(trains, i);
-        if t.number.0 == n.0 {
-            found = FoundTrain::Is(t);
+    let mut found = None;
+    'search: for t in trains {
+        if t.number == n {
+            found = Some(*t);
             break 'search;
         }
-        i += 1;
     }
     found
 }
 
-// A train is what is looked for: the search goes over the trains and their head and rear, and is left when one is found.
-pub fn is_met(trains: &[u16; 128], running: usize, q: TrainQuery) -> bool
-    requires { running ≤ 32 }
-    ensures { result ≡ any (train_passes q) (prefix running (trains_in trains.now)) }
+// A train touches the set of portions.
+#[tactic(auto, using(crate::proofs::TrainLaws::touching_by_ends))]
+pub fn is_any_touching(trains: &[Train], set: u64) -> bool
+    ensures { result ≡ any (touches set) trains.now }
+{
+    is_any_end(trains, |_, end| portions::has(set, end))
+}
+
+// A train is in the way of a CONTINUE from old to a (refusal 12).
+#[tactic(auto, using(crate::proofs::TrainLaws::in_the_way_by_ends))]
+pub fn is_any_in_the_way(trains: &[Train], old: AuthorityNo, a: Authority) -> bool
+    ensures { result ≡ any (in_the_way old.0 a) trains.now }
+{
+    is_any_end(trains, |t, end| {
+        portions::has(a.limits, end)
+            && (a.kind == Kind::Twa || t.with != old || !portions::has(a.limits, t.head))
+    })
+}
+
+// Another train than n touches the portion.
+#[tactic(auto, using(crate::proofs::TrainLaws::another_by_ends))]
+pub fn is_another_at(trains: &[Train], n: TrainNo, p: u16) -> bool
+    ensures { result ≡ any (is_other_at n.0 p) trains.now }
+{
+    is_any_end(trains, |t, end| t.number != n && p != 99 && end == p)
+}
+
+// The test passes a train by one of its ends, its head or its rear.
+#[tactic(auto, unfolding(crate::specs::Trains::SearchesEnds))]
+fn is_any_end<F: Fn(Train, u16) -> bool>(trains: &[Train], passes: F) -> bool
+    requires { F.IsAlwaysCallable passes }
+    ensures { SearchesEnds (F.post passes) trains.now result }
 {
     let mut met = false;
-    let mut i: usize = 0;
-    'search: while i < running {
-        let t = train_at(trains, i);
-        let ends = [t.head, t.rear];
-        let mut k: usize = 0;
-        while k < 2 {
-            if passes_at(q, t, ends[k]) {
+    'search: for t in trains {
+        for end in [t.head, t.rear] {
+            if passes(*t, end) {
                 met = true;
                 break 'search;
             }
-            k += 1;
         }
-        i += 1;
     }
     met
 }

@@ -1,10 +1,8 @@
-use Rattle.std.proofs.Common.{◌≡◌, ◌-◌, ◌≤◌}
-use Rattle.places.specs.Places.{gates_in}
-use Rattle.gates.proofs.Needs.{needed_to}
+use Rattle.std.proofs.Common.{◌≡◌}
+use Rattle.portions.specs.Sets.{set_of}
+use Rattle.gates.specs.Needs.{is_needed}
 use Rattle.gates.proofs.needed.Given as goal
 
+-- the set is that of the needed gates before i
 abbrev pub invariant-loop-i : goal.invariant-loop-i
-invariant-loop-i l = (l.i ≤ l.count) × (l.set ≡ needed_to (gates_in l.gates) l.count l.limits l.i)
-
-abbrev pub decreases-loop-i : goal.decreases-loop-i
-decreases-loop-i l = l.count - l.i
+invariant-loop-i l = l.set ≡ set_of l.i (is_needed l.limits l.gates.items)
