@@ -1,8 +1,30 @@
 -- The room that an effect asks for. Assumes nothing.
-use Rattle.std.specs.Prelude.{ℕ, ◌<◌, ◌≡◌, true}
-use Rattle.rules.specs.declared.Register.{Register}
-use Rattle.rules.specs.Board.{board_of, is_outside, gate_at}
+use Rattle.std.specs.Prelude.{ℕ, ◌<◌, ◌≡◌, true, length}
+use Rattle.rules.specs.declared.Call.{Call}
+use Rattle.rules.specs.declared.Call.TheVariants.{Request, Withdraw, Agree, Block, Unblock, Grant, Clear, Reoccupy, HandOver, Fulfil, Continue, Move, Passed, Term, Join, BookOut, BookIn}
+use Rattle.rules.specs.Board.{Board, is_outside, gate_at}
+use Rattle.changes.specs.Room.{HasPlace}
 
 -- a gate from outside has room for one more train behind it
-pub record HasRoom (r : Register) (g : ℕ) : Type 0 where
-  pub room : is_outside (gate_at (board_of r).gates g).from ≡ true → r.running < 32
+pub record HasRoom (b : Board) (g : ℕ) : Type 0 where
+  pub room : is_outside (gate_at b.gates g).from ≡ true → length b.trains < 32
+
+-- REQUEST and MOVE ask for room, the other calls for nothing
+abbrev pub RoomFor : Board → Call → Type 0
+RoomFor b (Request kind first last officer) = HasPlace b
+RoomFor b (Withdraw n officer) = Unit {0}
+RoomFor b (Agree toa twa officer) = Unit {0}
+RoomFor b (Block g) = Unit {0}
+RoomFor b (Unblock g) = Unit {0}
+RoomFor b (Grant n officer) = Unit {0}
+RoomFor b (Clear n officer) = Unit {0}
+RoomFor b (Reoccupy n officer) = Unit {0}
+RoomFor b (HandOver n out into) = Unit {0}
+RoomFor b (Fulfil n officer assurances) = Unit {0}
+RoomFor b (Continue old new officer_old officer_new) = Unit {0}
+RoomFor b (Move t g n officer) = HasRoom b g.0
+RoomFor b (Passed t) = Unit {0}
+RoomFor b (Term n day time length) = Unit {0}
+RoomFor b (Join twa toa officer distance) = Unit {0}
+RoomFor b (BookOut g paper) = Unit {0}
+RoomFor b (BookIn g paper certified new) = Unit {0}

@@ -1,6 +1,7 @@
-// What an accepted call does to the board in the lent arrays.
+// What an accepted call does to the register.
 #![tactic(auto)]
 
 mod effect;
+mod running;
 
 pub use effect::effect_of;
