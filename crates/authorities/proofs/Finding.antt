@@ -1,5 +1,5 @@
--- The answer to a call: the first refusal of its list that holds, and what the search for an authority, or for two, says of `live` and `authority`.
--- Assumes nothing.
+-- The answer to a call: the first refusal of its list that holds, and what the search for an authority, or for two,
+-- says of `live` and `authority`. Assumes nothing.
 use Prim.Native.Nat.{ℕ}
 use mathlib.Core.Path.{◌≡◌, refl, sym, ◌∙◌}
 use mathlib.Core.Bool.{Bool, true, false, not, ◌||◌}
@@ -41,20 +41,24 @@ pub ruleset refusals = (holds, fails, none, not_of_false, not_of_true, of_call, 
 -- ---- the authority with a number, looked for
 
 -- a call that names it alone is answered 5 where it is not live, else by its other refusals, of the authority found
-module _ (b : Board) (n : ℕ) (rs : List Refusal) {f : Option Authority} (looked : f ≡ find (is_authority n) b.authorities) where
+module _ (b : Board) (n : ℕ) (rs : List Refusal)
+    {f : Option Authority} (looked : f ≡ find (is_authority n) b.authorities) where
   pub not_live_lem : f ≡ None → 5 ≡ lowest (5 when not_live b n ∷ rs)
   not_live_lem none' = holds 5 _ rs (not_found b n looked none')
 
-  pub is_live : {a : Authority} {v : ℕ} → f ≡ Some a → (authority b n ≡ a → v ≡ lowest rs) → v ≡ lowest (5 when not_live b n ∷ rs)
+  pub is_live : {a : Authority} {v : ℕ} → f ≡ Some a → (authority b n ≡ a → v ≡ lowest rs)
+      → v ≡ lowest (5 when not_live b n ∷ rs)
   is_live is decided = let h = found b n looked is in fails 5 _ _ rs h.0 (decided h.1)
 
 -- one that names two is answered 5 where either is not live, else by its other refusals, of the two found
-module _ (b : Board) (n m : ℕ) (rs : List Refusal) {f : Option Authority} (looked : f ≡ find (is_authority n) b.authorities) where
+module _ (b : Board) (n m : ℕ) (rs : List Refusal)
+    {f : Option Authority} (looked : f ≡ find (is_authority n) b.authorities) where
   pub first_not_live : f ≡ None → 5 ≡ lowest (5 when (not_live b n || not_live b m) ∷ rs)
   unfolding lowest
   first_not_live none' = rw (not_found b n looked none')
 
-  module _ {a : Authority} (is : f ≡ Some a) {g : Option Authority} (looked_too : g ≡ find (is_authority m) b.authorities) where
+  module _ {a : Authority} (is : f ≡ Some a)
+      {g : Option Authority} (looked_too : g ≡ find (is_authority m) b.authorities) where
     pub second_not_live : g ≡ None → 5 ≡ lowest (5 when (not_live b n || not_live b m) ∷ rs)
     unfolding lowest
     second_not_live none' = rw ((found b n looked is).0, not_found b m looked_too none')

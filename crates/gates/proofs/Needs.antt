@@ -1,4 +1,5 @@
--- Laws of the gates that limits need, as a set: what callers cite, and the steps of the loop that builds it. Assumes nothing.
+-- Laws of the gates that limits need, as a set: what callers cite, and the steps of the loop that builds it.
+-- Assumes nothing.
 use mathlib.Core.Path.{◌≡◌, sym, ◌∙◌}
 use mathlib.Core.Bool.{not, ◌&&◌, and_assoc, not-not}
 use mathlib.Core.List.{List}
@@ -18,7 +19,8 @@ use Rattle.rules.specs.Refusals.{is_open, unprotected}
 use Rattle.gates.specs.Needs.{is_needed, needed_of}
 
 -- a gate is in the set where the plan has it and the limits need it
-pub needed_has : (gates : List Gate) (limits g : ℕ) → has g (needed_of gates limits) ≡ (ltb g (length gates) && needs limits (gate_at gates g))
+pub needed_has : (gates : List Gate) (limits g : ℕ)
+    → has g (needed_of gates limits) ≡ (ltb g (length gates) && needs limits (gate_at gates g))
 unfolding needed_of
 needed_has gates limits g = has-set_of (length gates) (is_needed limits gates) g
 
@@ -31,7 +33,9 @@ unprotected-subset b a few =
     let left = in_first_only (needed_of b.gates a.limits) b.blocks in
     let same : (g : ℕ) → left g ≡ (ltb g (length b.gates) && unblocked g) = λ g. rw (needed_has, and_assoc) in
     rw not-not (same_test _ _
-    (λ e. let (g, l, p) = some_below _ unblocked e in below_some 64 left g (omega arith) (same g ∙ and_i _ _ (lt-ltb g _ l) p))
+    (λ e.
+    let (g, l, p) = some_below _ unblocked e in
+    below_some 64 left g (omega arith) (same g ∙ and_i _ _ (lt-ltb g _ l) p))
     (λ e.
     let (g, l, p) = some_below 64 left e in
     let q = sym (same g) ∙ p in

@@ -20,7 +20,7 @@ pub fn gate_at(gates: &[Gate], g: GateNo) -> Gate
 pub fn is_needed(limits: u64, gate: Gate) -> bool
     ensures { result ≡ needs limits gate }
 {
-    portions::has(limits, gate.to) & !portions::has(limits, gate.from)
+    portions::has(limits, gate.to) && !portions::has(limits, gate.from)
 }
 
 // The set of the gates that lead into the limits.

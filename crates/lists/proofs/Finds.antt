@@ -1,5 +1,5 @@
 -- What std's `find` answers, in the words of `any` and `first`. Assumes nothing.
-use mathlib.Core.Path.{◌≡◌, refl, ◌∙◌}
+use mathlib.Core.Path.{◌≡◌, refl}
 use mathlib.Core.Bool.{Bool, true, false, cond, ◌||◌}
 use mathlib.Core.List.{List, [], ◌∷◌}
 use Rattle.std.specs.Prelude.{Option, Some, None, find, is_some}
@@ -25,7 +25,8 @@ module _ {A : Type 0} (test : A → Bool) where
   found_none (x ∷ xs) e = none_step (test x) (any test xs) x (find test xs) e (found_none xs)
 
   -- it finds a: some element passes, and a is the first that does
-  is_step : (d x a : A) (t u : Bool) (o : Option A) (f : A) → cond t (Some x) o ≡ Some a → (o ≡ Some a → (u ≡ true) × (f ≡ a))
+  is_step : (d x a : A) (t u : Bool) (o : Option A) (f : A) → cond t (Some x) o ≡ Some a
+      → (o ≡ Some a → (u ≡ true) × (f ≡ a))
       → ((t || u) ≡ true) × (cond t x f ≡ a)
   is_step d x a true u o f e ih = (refl, cc)
   is_step d x a false u o f e ih = ih e
