@@ -1,13 +1,18 @@
 -- The room that an effect asks for. Assumes nothing.
-use Rattle.std.specs.Prelude.{ℕ, ◌<◌, ◌≡◌, true, length}
+use Rattle.std.specs.Prelude.{ℕ, ◌<◌, ◌≡◌, true, length, ltb, Bool}
+use Rattle.rules.specs.declared.Train.{Train}
 use Rattle.rules.specs.declared.Call.{Call}
 use Rattle.rules.specs.declared.Call.TheVariants.{Request, Withdraw, Agree, Block, Unblock, Grant, Clear, Reoccupy, HandOver, Fulfil, Continue, Move, Passed, Term, Join, BookOut, BookIn}
-use Rattle.rules.specs.Board.{Board, is_outside, gate_at}
+use Rattle.rules.specs.Board.{Board, is_outside, gate_at, train_no}
 use Rattle.changes.specs.Room.{HasPlace}
 
 -- a gate from outside has room for one more train behind it
 pub record HasRoom (b : Board) (g : ℕ) : Type 0 where
   pub room : is_outside (gate_at b.gates g).from ≡ true → length b.trains < 32
+
+-- the train has a higher number
+abbrev pub is_above : ℕ → Train → Bool
+is_above n t = ltb n (train_no t)
 
 -- REQUEST and MOVE ask for room, the other calls for nothing
 abbrev pub RoomFor : Board → Call → Type 0

@@ -1,15 +1,18 @@
 // The calls that change trains: FULFIL, CONTINUE, MOVE and PASSED.
-ghost use Rattle.std.specs.Prelude.{◌≡◌, ◌<◌, ℕ, Some, length};
+ghost use Rattle.std.specs.Prelude.{◌≡◌, ◌<◌, ℕ, Some, cond, find, length, position};
 ghost use Rattle.lists.specs.Order.{insert_by};
 ghost use Rattle.rules.specs.declared.Call.TheVariants as Call;
-ghost use Rattle.rules.specs.Board.{board_of, train_no};
+ghost use Rattle.std.specs.Option.{unwrap_or};
+ghost use Rattle.portions.specs.Sets.{has};
+ghost use Rattle.rules.specs.Board.{board_of, is_authority, is_train, no_authority, no_train, train_no};
+ghost use Rattle.rules.specs.Call.{authority_of};
 ghost use Rattle.rules.specs.Effects.{effect};
-ghost use Rattle.effects.specs.Room.{HasRoom};
+ghost use Rattle.effects.specs.Room.{HasRoom, is_above};
 
 use arrayvec::ArrayVec;
 use changes::{end_authority, put_in_force};
 use lists::change;
-use rules::{AuthorityNo, GateNo, Register, Train, TrainNo};
+use rules::{Authority, AuthorityNo, GateNo, Register, Train, TrainNo};
 
 pub fn fulfil(register: &mut Register, n: AuthorityNo)
     ensures { (officer assurances : ℕ) → board_of register.new ≡ effect (board_of register.old) (Some (Call.Fulfil n officer assurances)) }
@@ -25,26 +28,48 @@ pub fn fulfil(register: &mut Register, n: AuthorityNo)
     );
 }
 
+// The limits of the live authority with that number, none where there is none.
+fn limits_of(authorities: &[Authority], n: AuthorityNo) -> u64
+    ensures { result ≡ (unwrap_or (find (is_authority n.0) authorities.now) no_authority).limits }
+{
+    match authorities::find(authorities, n) {
+        Some(a) => a.limits,
+        None => 0,
+    }
+}
+
+// The authority of a train whose own is continued: the new one where its head is in the limits, else none.
+fn authority_after(head: u16, new: AuthorityNo, limits: u64) -> AuthorityNo
+    ensures { result ≡ cond (has head limits) new (authority_of 0) }
+{
+    if portions::has(limits, head) {
+        new
+    } else {
+        AuthorityNo(0)
+    }
+}
+
 pub fn continue_as(register: &mut Register, old: AuthorityNo, new: AuthorityNo)
     ensures { (officer_old officer_new : ℕ) → board_of register.new ≡ effect (board_of register.old) (Some (Call.Continue old new officer_old officer_new)) }
 {
-    let limits = authorities::find(&register.authorities, new)
-        .unwrap_or_default()
-        .limits;
+    let limits = limits_of(&register.authorities, new);
     end_authority(&mut register.authorities, old);
     put_in_force(&mut register.authorities, new);
     change(
         &mut register.trains,
         |t| t.with == old,
         |t| Train {
-            with: if portions::has(limits, t.head) {
-                new
-            } else {
-                AuthorityNo(0)
-            },
+            with: authority_after(t.head, new, limits),
             ..t
         },
     );
+}
+
+// Where the first train with a higher number stands, if there is one.
+fn first_above(trains: &[Train], n: TrainNo) -> Option<usize>
+    ensures { result ≡ position (is_above n.0) trains.now }
+{
+    trains.iter().position(|t| n.0 < t.number.0)
 }
 
 // One more train, put before the first with a higher number.
@@ -52,10 +77,7 @@ fn insert_train(trains: &mut ArrayVec<Train, 32>, t: Train)
     requires { length trains.old.items < 32 }
     ensures { trains.new.items ≡ insert_by train_no t trains.old.items }
 {
-    let place = trains
-        .iter()
-        .position(|x| t.number.0 < x.number.0)
-        .unwrap_or(trains.len());
+    let place = first_above(trains, t.number).unwrap_or(trains.len());
     trains.insert(place, t);
 }
 
@@ -87,13 +109,20 @@ pub fn move_train(register: &mut Register, t: TrainNo, g: GateNo, n: AuthorityNo
     }
 }
 
+// The head of the train with that number, 0 where there is none.
+fn head_of(trains: &[Train], n: TrainNo) -> u16
+    ensures { result ≡ (unwrap_or (find (is_train n.0) trains.now) no_train).head }
+{
+    match trains::find_train(trains, n) {
+        Some(t) => t.head,
+        None => 0,
+    }
+}
+
 pub fn passed(register: &mut Register, t: TrainNo)
     ensures { board_of register.new ≡ effect (board_of register.old) (Some (Call.Passed t)) }
 {
-    let head = trains::find_train(&register.trains, t)
-        .unwrap_or_default()
-        .head;
-    if head == 99 {
+    if head_of(&register.trains, t) == 99 {
         register.trains.retain(|x| x.number != t);
     } else {
         change(

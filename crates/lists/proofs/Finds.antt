@@ -3,6 +3,7 @@ use mathlib.Core.Path.{◌≡◌, refl}
 use mathlib.Core.Bool.{Bool, true, false, cond, ◌||◌}
 use mathlib.Core.List.{List, [], ◌∷◌}
 use Rattle.std.specs.Prelude.{Option, Some, None, find, is_some}
+use Rattle.std.specs.Option.{unwrap_or}
 use Rattle.lists.specs.Search.{any, first}
 
 module _ {A : Type 0} (test : A → Bool) where
@@ -35,3 +36,13 @@ module _ {A : Type 0} (test : A → Bool) where
   unfolding first
   found_is d [] e = cc
   found_is d (x ∷ xs) {a} e = is_step d x a (test x) (any test xs) (find test xs) (first test d xs) e (found_is d xs)
+
+  -- the first that passes, or d, is what is found, or d
+  first_step : (d x f : A) (t : Bool) (o : Option A) → f ≡ unwrap_or o d → cond t x f ≡ unwrap_or (cond t (Some x) o) d
+  first_step d x f true o e = refl
+  first_step d x f false o e = e
+
+  pub first-find : (d : A) (l : List A) → first test d l ≡ unwrap_or (find test l) d
+  unfolding first
+  first-find d [] = refl
+  first-find d (x ∷ xs) = first_step d x (first test d xs) (test x) (find test xs) (first-find d xs)

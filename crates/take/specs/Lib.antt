@@ -1,3 +1,2 @@
 -- What the contracts of this crate cite beside the rules.
-pub mod Lent
-pub mod Faults
+pub mod Taking

@@ -1,0 +1,3 @@
+-- The laws that the proofs of the functions of this crate cite, and the room that an accepted call has.
+pub mod Inserting
+pub mod Rooms

@@ -1,0 +1,15 @@
+-- `effects::running::fulfil` meets its contract. Assumes nothing.
+use Rattle.std.proofs.Common.{rules}
+use Rattle.lists.proofs.Each.{changed-where}
+use Rattle.rules.specs.Board.{board_of}
+use Rattle.rules.specs.Call.{authority_of}
+use Rattle.rules.specs.Effects.{is_with, with_authority, effect}
+use Rattle.effects.proofs.running.fulfil.Goals as goal
+
+pub returns : goal.returns
+unfolding board_of effect
+returns c = λ officer assurances.
+    rw (
+      c.end_authority.ensures,
+      changed-where (is_with c.args.n.0) (with_authority (authority_of 0)) c.change.ensures (λ x b k. search rules) (λ x y k. search rules),
+    )

@@ -1,0 +1,28 @@
+-- `effects::running::passed` meets its contract. Assumes nothing.
+use Rattle.std.proofs.Common.{rules, eq-eqb, ne_eqb}
+use Rattle.arrayvec.proofs.ArrayVecLemmas.{filter-from_retain}
+use Rattle.lists.proofs.Each.{changed-where}
+use Rattle.lists.proofs.Finds.{first-find}
+use Rattle.rules.specs.Board.{board_of, train, is_train, is_not_train, no_train}
+use Rattle.rules.specs.Effects.{with_rear_in, effect}
+use Rattle.effects.proofs.running.passed.Goals as goal
+
+pub returns-then-head_of-eq99 : goal.returns-then-head_of-eq99
+unfolding board_of train effect
+returns-then-head_of-eq99 c =
+    rw (
+      first-find (is_train c.args.t.0) no_train,
+      ← (rw c.deref.ensures.0 at c.head_of.ensures),
+      eq-eqb _ _ c.if-head_of-eq99.true,
+    )
+    (rw (filter-from_retain _ (is_not_train c.args.t.0) _ (λ x b f' y k. search rules) _ _ c.retain.ensures.filtered))
+
+pub returns-else-head_of-eq99 : goal.returns-else-head_of-eq99
+unfolding board_of train effect
+returns-else-head_of-eq99 c =
+    rw (
+      first-find (is_train c.args.t.0) no_train,
+      ← (rw c.deref.ensures.0 at c.head_of.ensures),
+      ne_eqb _ _ c.if-head_of-eq99.false,
+      changed-where (is_train c.args.t.0) with_rear_in c.change.ensures (λ x b k. search rules) (λ x y k. search rules),
+    )
