@@ -1,13 +1,13 @@
 -- Laws of reading a column, for every number, width and greatest number; then that the scan of the code reads the same. Assumes nothing.
 use mathlib.Core.Path.{◌≡◌, refl, sym, ap, ◌∙◌}
-use mathlib.Core.Bool.{Bool, true, false, cond, ◌&&◌}
+use mathlib.Core.Bool.{Bool, true, false, cond, ◌&&◌, false≢true, and-true, and-false}
 use mathlib.Core.List.{List, [], ◌∷◌, ◌++◌}
 use mathlib.Core.Logic.{⊎_elim}
-use Prim.Native.Nat.{ℕ, ◌+◌, ◌-◌, ◌≤◌, ◌<◌}
+use Prim.Native.Nat.{ℕ, ◌+◌, ◌-◌, ◌≤◌}
 use native.Mathlib.Omega.{arith}
 use native.Mathlib.Nat.{add-sub_cancel}
-use borrow.Author.Tests.{eqb-true, ne_eqb, le-leb, leb-true}
-use lib.Dec.{eqb, leb}
+use borrow.Author.Tests.{eqb-true, le-leb, leb-true, lt-ltb}
+use lib.Dec.{eqb, leb, ltb}
 use lib.ListN.{length, drop, get_or, replicate, length-replicate}
 use lib.Seq.{drop_at}
 use Rattle.lists.proofs.Tests.{and_l, and_r, truth}
@@ -78,6 +78,10 @@ read_scan most s =
     (λ n e. let r = bare_is most n (drop (blanks s) s) e in rw (blanks_split s, r.1) (behind_blanks most (blanks s) n r.0))
     (λ n e. let r = is_read most n s e in rw r.0 (scan_column most (length s) n r.1))
 
+-- digits with a 0 before others
+abbrev pub leads : List ℕ → Bool
+leads d = eqb (get_or d 0 0) 48 && ltb 1 (length d)
+
 -- ---- the ways out of the code, by the digits: what stands behind the blanks
 module _ (most : ℕ) (s : List ℕ) where
   read_bare : (d : List ℕ) → d ≡ drop (blanks s) s → bare most d ≡ read_column most s
@@ -88,15 +92,14 @@ module _ (most : ℕ) (s : List ℕ) where
   read_none [] e h = read_bare [] e
   read_none (b ∷ d) e h = absurd (omega arith)
 
-  pub read_zeros : (d : List ℕ) → d ≡ drop (blanks s) s → 1 < length d → get_or d 0 0 ≡ 48 → None ≡ read_column most s
+  pub read_zeros : (d : List ℕ) → d ≡ drop (blanks s) s → leads d ≡ true → None ≡ read_column most s
   unfolding bare
-  read_zeros [] e h z = absurd (omega arith)
-  read_zeros (b ∷ []) e h z = absurd (omega arith)
-  read_zeros (b ∷ c ∷ d) e h z = rw (← read_bare (b ∷ c ∷ d) e, z)
+  read_zeros [] e h = absurd (false≢true h)
+  read_zeros (b ∷ []) e h = absurd (false≢true (sym (and-false (eqb b 48)) ∙ h))
+  read_zeros (b ∷ c ∷ d) e h = rw (← read_bare (b ∷ c ∷ d) e, and_l (eqb b 48) (ltb 1 (length (b ∷ c ∷ d))) h)
 
   -- 0 alone is scanned as any other digits are
-  pub read_digits : (d : List ℕ) → d ≡ drop (blanks s) s → (length d ≡ 0 → ⊥) → (get_or d 0 0 ≡ 48 → length d ≤ 1)
-      → scan_digits most 0 d ≡ read_column most s
+  pub read_digits : (d : List ℕ) → d ≡ drop (blanks s) s → (length d ≡ 0 → ⊥) → leads d ≡ false → scan_digits most 0 d ≡ read_column most s
   unfolding bare scan_digits
   read_digits [] e h z = absurd (omega arith)
   read_digits (b ∷ []) e h z = ⊎_elim
@@ -104,5 +107,5 @@ module _ (most : ℕ) (s : List ℕ) where
       (λ (t : eqb b 48 ≡ false). rw (← read_bare (b ∷ []) e, t))
       (truth (eqb b 48))
   read_digits (b ∷ c ∷ d) e h z =
-      let l : b ≡ 48 → ⊥ = λ x. omega (arith, z x) in
-      rw (← read_bare (b ∷ c ∷ d) e, ne_eqb b 48 l)
+      let other : eqb b 48 ≡ false = sym (and-true (eqb b 48)) ∙ (rw (lt-ltb 1 (length (b ∷ c ∷ d)) (omega arith)) at z) in
+      rw (← read_bare (b ∷ c ∷ d) e, other)

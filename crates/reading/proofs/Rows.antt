@@ -5,7 +5,7 @@ use mathlib.Core.List.{List, [], ◌∷◌, ◌++◌, append_assoc, append-nil}
 use Prim.Native.Nat.{ℕ, suc, ◌+◌, ◌≤◌, ◌<◌}
 use native.Mathlib.Omega.{arith}
 use native.Mathlib.Numerals.{add-one}
-use borrow.Author.Tests.{eq-eqb, ne_eqb, le-leb, lt-leb, leb-true}
+use borrow.Author.Tests.{ne_eqb, le-leb, lt-leb, leb-true}
 use lib.Dec.{eqb, leb}
 use lib.ListN.{length, take, drop, set, get_or, length-append, length-set, take-append-drop, drop_of_length-le}
 use lib.Seq.{take_at, drop_at, drop-cons, take-suc-set, length-take-le}
@@ -162,10 +162,10 @@ module _ (most : ℕ) (ws s : List ℕ) where
     unfolding row_of
     row_end whole h e = rw (drop_of_length-le ws h, e)
 
-    pub row_whole : length ws ≤ k → length rest ≡ 1 → get_or rest 0 0 ≡ 10 → Some numbers ≡ row_in most ws s
-    row_whole h e z =
+    pub row_whole : length ws ≤ k → same_text rest (10 ∷ []) ≡ true → Some numbers ≡ row_in most ws s
+    row_whole h e =
         let all : take k numbers ≡ numbers = take_all k numbers (omega (arith, so_far.places)) in
-        sym (rw all at (row_ended true (row_end true h (end_one rest e ∙ eq-eqb _ _ z))))
+        sym (rw all at (row_ended true (row_end true h e)))
 
-    pub row_other : length ws ≤ k → (length rest ≡ 1 → get_or rest 0 0 ≡ 10 → ⊥) → None ≡ row_in most ws s
-    row_other h z = sym (row_ended false (row_end false h (end_other rest z)))
+    pub row_other : length ws ≤ k → same_text rest (10 ∷ []) ≡ false → None ≡ row_in most ws s
+    row_other h e = sym (row_ended false (row_end false h e))

@@ -1,8 +1,8 @@
 // Numbers in fixed columns of text, right-justified behind blanks, read: one column, and a row of columns.
 #![tactic(auto)]
 
-ghost use Rattle.std.specs.Prelude.{◌≡◌};
-ghost use Rattle.reading.specs.Reading.{blanks, read_column, row_in};
+ghost use Rattle.std.specs.Prelude.{◌≡◌, [], ◌∷◌};
+ghost use Rattle.reading.specs.Reading.{blanks, same_text, read_column, row_in};
 ghost use Rattle.reading.specs.Steps.{scan_digits};
 
 // How many blanks the text starts with.
@@ -38,10 +38,19 @@ pub fn read_column(text: &[u8], most: u32) -> Option<u32>
     if digits.is_empty() {
         return None;
     }
-    if digits[0] == b'0' && digits.len() > 1 {
+    let has_leading_zero = (digits[0] == b'0') & (digits.len() > 1);
+    if has_leading_zero {
         return None;
     }
     number_from(digits, most)
+}
+
+// The text is a line feed and no more.
+#[tactic(auto, using(crate::proofs::Rows::end_one, crate::proofs::Rows::end_other))]
+fn is_line_feed(text: &[u8]) -> bool
+    ensures { result ≡ same_text text.now (10 ∷ []) }
+{
+    text.len() == 1 && text[0] == b'\n'
 }
 
 // The numbers of a text that is a row of columns of the given widths, then a line feed and no more: each at most `most`.
@@ -55,7 +64,7 @@ pub fn read_row<const N: usize>(text: &[u8], widths: &[u8; N], most: u32) -> Opt
         numbers[place] = read_column(column, most)?;
         rest = behind;
     }
-    if rest.len() == 1 && rest[0] == b'\n' {
+    if is_line_feed(rest) {
         Some(numbers)
     } else {
         None

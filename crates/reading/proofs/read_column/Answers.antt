@@ -6,7 +6,6 @@ use Rattle.reading.specs.Reading.{blanks}
 use Rattle.reading.proofs.Scan.{blanks_le}
 use Rattle.reading.proofs.Reading.{read_none, read_zeros, read_digits}
 use Rattle.reading.proofs.read_column.Goals as goal
-use Rattle.reading.proofs.read_column.Goals.{else-digits-eq48-via-then-digits-eq48+else-digits-gt1, else-digits-eq48-via-else-digits-eq48}
 
 -- the part that the code takes is what stands behind the blanks
 behind : (s : List ℕ) (at : ℕ) → at ≡ blanks s → take (length s - at) (drop at s) ≡ drop (blanks s) s
@@ -22,13 +21,10 @@ pub returns-then-is_empty : goal.returns-then-is_empty
 returns-then-is_empty c =
     read_none _ _ _ (behind _ _ c.blanks_of.ensures) (eqb-true _ _ (sym c.is_empty.ensures ∙ c.if-is_empty.true))
 
-pub returns-then-digits-gt1 : goal.returns-then-digits-gt1
-returns-then-digits-gt1 c = read_zeros _ _ _ (behind _ _ c.blanks_of.ensures) (omega arith) c.if-digits-eq48.true
+pub returns-then-has_leading_zero : goal.returns-then-has_leading_zero
+returns-then-has_leading_zero c = read_zeros _ _ _ (behind _ _ c.blanks_of.ensures) c.if-has_leading_zero.true
 
 pub returns : goal.returns
 returns c =
     let some = eqb-false _ _ (sym c.is_empty.ensures ∙ c.if-is_empty.false) in
-    c.number_from.ensures ∙ read_digits _ _ _ (behind _ _ c.blanks_of.ensures) some (elim c.else-digits-eq48.branch [
-      | else-digits-eq48-via-then-digits-eq48+else-digits-gt1 w ↦ λ z. omega arith
-      | else-digits-eq48-via-else-digits-eq48 w ↦ λ z. absurd (w.if-digits-eq48.false z)
-    ])
+    c.number_from.ensures ∙ read_digits _ _ _ (behind _ _ c.blanks_of.ensures) some c.if-has_leading_zero.false

@@ -4,7 +4,6 @@ use Rattle.std.proofs.Common.{sym, ◌∙◌, arith}
 use lib.ListN.{length-replicate}
 use Rattle.reading.proofs.Rows.{none_yet, row_short, row_bad, row_next, row_whole, row_other}
 use Rattle.reading.proofs.read_row.Goals as goal
-use Rattle.reading.proofs.read_row.Goals.{else-rest-eq1-via-then-rest-eq1+else-rest-eq10, else-rest-eq1-via-else-rest-eq1}
 
 pub loop-place-init : goal.loop-place-init
 loop-place-init g c = none_yet _ _ _ _ (simp length-replicate (sym c.told-widths))
@@ -23,13 +22,10 @@ pub loop-place-preserved : goal.loop-place-preserved
 loop-place-preserved g c =
     row_next _ _ _ _ _ _ c.loop-place.invariant _ c.from.ensures (omega arith) _ _ c.in_ok-column.ensures.cases _ c.in_ok-numbers.ensures
 
-pub returns-then-rest-eq10 : goal.returns-then-rest-eq10
-returns-then-rest-eq10 g c =
-    row_whole _ _ _ _ _ _ c.loop-place.invariant (omega arith) c.if-rest-eq1.true c.if-rest-eq10.true
+pub returns-then-is_line_feed : goal.returns-then-is_line_feed
+returns-then-is_line_feed g c =
+    row_whole _ _ _ _ _ _ c.loop-place.invariant (omega arith) (sym c.is_line_feed.ensures ∙ c.if-is_line_feed.true)
 
-pub returns-else-rest-eq1 : goal.returns-else-rest-eq1
-returns-else-rest-eq1 g c =
-    row_other _ _ _ _ _ _ c.loop-place.invariant (omega arith) (elim c.else-rest-eq1.branch [
-      | else-rest-eq1-via-then-rest-eq1+else-rest-eq10 w ↦ λ e. w.if-rest-eq10.false
-      | else-rest-eq1-via-else-rest-eq1 w ↦ λ e z. absurd (w.if-rest-eq1.false e)
-    ])
+pub returns-else-is_line_feed : goal.returns-else-is_line_feed
+returns-else-is_line_feed g c =
+    row_other _ _ _ _ _ _ c.loop-place.invariant (omega arith) (sym c.is_line_feed.ensures ∙ c.if-is_line_feed.false)
