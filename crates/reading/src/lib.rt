@@ -53,7 +53,8 @@ fn is_line_feed(text: &[u8]) -> bool
     text.len() == 1 && text[0] == b'\n'
 }
 
-// The numbers of a text that is a row of columns of the given widths, then a line feed and no more: each at most `most`.
+// The numbers of a text that is a row of columns of the given widths, then a line feed and no more; each is at most
+// `most`.
 pub fn read_row<const N: usize>(text: &[u8], widths: &[u8; N], most: u32) -> Option<[u32; N]>
     ensures { result ≡ row_in most widths.now text.now }
 {
