@@ -9,6 +9,7 @@ use lib.Dec.{eqb}
 use lib.ListN.{length, take, drop, get_or, replicate, length-drop, drop_of_length-le}
 use lib.Seq.{drop-cons, drop-drop}
 use Rattle.std.specs.Prelude.{Option, Some, None}
+use Rattle.std.proofs.lemmas.Bool.Decides.{nat_tests}
 use Rattle.lists.proofs.Tests.{truth, lt_or_le}
 use Rattle.columns.specs.Line.{line}
 use Rattle.reading.specs.Reading.{same_text, read_column, first_column, Row, with_column, row_of}
@@ -83,3 +84,6 @@ module _ (s : List ℕ) where
         cond (eqb (get_or s 42 0) 10) (Some (seven_of (day ∷ time ∷ call ∷ a ∷ b ∷ c ∷ d ∷ []))) None)))))))
     unfolding line_in line_from
     line_is = line_from-is 7 0 [] refl
+
+-- what the function that reads a line is proved by
+pub ruleset of_a_line = (line_other, line_is, nat_tests)

@@ -52,7 +52,7 @@ fn read_six(text: &[u8], at: usize) -> Option<u16>
 }
 
 // The call on a line: a text of 43 bytes, and any other is malformed.
-#[tactic(auto, using(crate::proofs::Rows::line_other, crate::proofs::Rows::line_is, std::proofs::lemmas::Bool::Decides::nat_tests))]
+#[tactic(auto, using(crate::proofs::Rows::of_a_line))]
 pub fn read_line(text: &[u8]) -> Option<Seven>
     ensures { result ≡ line_in text.now }
 {
