@@ -10,9 +10,10 @@ use borrow.Author.Tests.{eqb-true, ne_eqb, le-leb, leb-true}
 use lib.Dec.{eqb, leb}
 use lib.ListN.{length, take, drop, get_or}
 use lib.Seq.{drop-cons}
-use Rattle.lists.proofs.Tests.{told, clash, same_test}
-use Rattle.reading.specs.declared.Read.{Read}
-use Rattle.reading.specs.declared.Read.TheVariants.{Number, Malformed}
+use Rattle.lists.proofs.Tests.{told, clash, same_test, truth}
+use mathlib.Core.Logic.{⊎_elim}
+use Rattle.std.specs.Prelude.{Option, Some, None, Result, Ok, Err}
+use Rattle.std.specs.Result.{OkIff, result_ok}
 use Rattle.columns.specs.Column.{column}
 use Rattle.reading.specs.Reading.{read_column}
 use Rattle.columns.specs.Steps.{mark}
@@ -102,9 +103,12 @@ digits_make n h =
 unfoldable pub loose : ℕ → ℕ → ℕ → ℕ → ℕ → ℕ
 loose b1 b2 b3 b4 b5 = b1 % 16 * 10000 + b2 % 16 * 1000 + b3 % 16 * 100 + b4 % 16 * 10 + b5 % 16
 
-unfoldable pub passes : ℕ → ℕ → ℕ → ℕ → ℕ → ℕ → ℕ → Bool
-passes b0 b1 b2 b3 b4 b5 v =
-    eqb b0 32 && is_mark (leb 10000 v) b1 && is_mark (leb 1000 v) b2 && is_mark (leb 100 v) b3 && is_mark (leb 10 v) b4 && is_mark true b5 && leb v 65535
+unfoldable pub marked : ℕ → ℕ → ℕ → ℕ → ℕ → ℕ → ℕ → Bool
+marked b0 b1 b2 b3 b4 b5 v =
+    eqb b0 32 && is_mark (leb 10000 v) b1 && is_mark (leb 1000 v) b2 && is_mark (leb 100 v) b3 && is_mark (leb 10 v) b4 && is_mark true b5
+
+abbrev passes : ℕ → ℕ → ℕ → ℕ → ℕ → ℕ → ℕ → Bool
+passes b0 b1 b2 b3 b4 b5 v = marked b0 b1 b2 b3 b4 b5 v && leb v 65535
 
 -- the bytes of a number's column make it, and pass
 module _ (n : ℕ) (h : n ≤ 65535) where
@@ -115,7 +119,7 @@ module _ (n : ℕ) (h : n ≤ 65535) where
       rw (mark_low (n / 10000), mark_low (n / 1000), mark_low (n / 100), mark_low (n / 10), m) (digits_make n (omega arith))
 
   passes_column : passes 32 (mark (n / 10000)) (mark (n / 1000)) (mark (n / 100)) (mark (n / 10)) (48 + n % 10) n ≡ true
-  unfolding passes
+  unfolding marked
   passes_column =
       let a = passes_at 10000 n (omega arith) in
       let b = passes_at 1000 n (omega arith) in
@@ -135,7 +139,7 @@ module _ (b0 b1 b2 b3 b4 b5 : ℕ) where
 
   -- bytes that pass are the column of what they make
   column-passed : passed ≡ true → (six ≡ column 6 v) × (v ≤ 65535)
-  unfolding loose passes
+  unfolding loose marked
   column-passed h =
       let t1 : is_mark (leb 10000 v) b1 ≡ true = search (told, h) in
       let t2 : is_mark (leb 1000 v) b2 ≡ true = search (told, h) in
@@ -161,7 +165,7 @@ module _ (b0 b1 b2 b3 b4 b5 : ℕ) where
       (cc (column_six v (omega arith)), l)
 
   -- bytes that are read as a number pass
-  column_passes : (n : ℕ) → read_column 65535 six ≡ Number n → passed ≡ true
+  column_passes : (n : ℕ) → read_column 65535 six ≡ Some n → passed ≡ true
   column_passes n q =
       let h : n ≤ 65535 = read_most 65535 n six q in
       let c = column_read 65535 n six q ∙ column_six n (omega arith) in
@@ -169,15 +173,26 @@ module _ (b0 b1 b2 b3 b4 b5 : ℕ) where
       cc (passes_column n h)
 
   -- so they hold a number just where they pass, and it is what they make
-  pub read_passed : read_column 65535 six ≡ cond passed (Number v) Malformed
+  read_passed : read_column 65535 six ≡ cond passed (Some v) None
   read_passed = go passed refl (read_column 65535 six) refl
     where
-      go : (t : Bool) → passed ≡ t → (r : Read) → read_column 65535 six ≡ r → r ≡ cond t (Number v) Malformed
+      go : (t : Bool) → passed ≡ t → (r : Option ℕ) → read_column 65535 six ≡ r → r ≡ cond t (Some v) None
       go true p r q =
           let c = column-passed p in
           sym q ∙ rw c.0 (read_column_lem 65535 6 v (fits_below 6 v (omega arith) (omega arith)) c.1)
-      go false p (Number n) q = clash (column_passes n q) p
-      go false p Malformed q = refl
+      go false p (Some n) q = clash (column_passes n q) p
+      go false p None q = refl
+
+  -- that number is one of 16 bits, or it is none
+  pub narrowed : {E : Type 0} (r : Result ℕ E) → OkIff r (v < 65536) v → marked b0 b1 b2 b3 b4 b5 v ≡ true → result_ok r ≡ read_column 65535 six
+  narrowed (Ok n) (h, e) m = sym (read_passed ∙ rw (m, le-leb v 65535 (omega (arith, h)), e))
+  narrowed (Err e) h m = ⊎_elim
+      (λ (t : leb v 65535 ≡ true). absurd (h (omega (arith, leb-true v 65535 t))))
+      (λ (t : leb v 65535 ≡ false). sym (read_passed ∙ rw (m, t)))
+      (truth (leb v 65535))
+
+  pub not_marked : marked b0 b1 b2 b3 b4 b5 v ≡ false → None ≡ read_column 65535 six
+  not_marked m = sym (read_passed ∙ rw m)
 
 -- ---- the six bytes of a text from `at` on
 part_cons : (k i j : ℕ) (t : List ℕ) → i < length t → suc i ≡ j → take (suc k) (drop i t) ≡ get_or t i 0 ∷ take k (drop j t)

@@ -1,114 +1,89 @@
--- A call line: seven columns of six as `read_six` answers them, one after the other, and the line feed. Assumes nothing.
-use mathlib.Core.Path.{◌≡◌, refl, ap, ◌∙◌}
+-- A call line: seven columns of six, one after the other, and the line feed. Assumes nothing.
+use mathlib.Core.Path.{◌≡◌, refl, ap}
 use mathlib.Core.Logic.{inl, inr}
-use mathlib.Core.Bool.{Bool, true, false, cond, ◌&&◌, false≢true, and_assoc}
-use mathlib.Core.List.{List, [], ◌∷◌, map}
-use Prim.Native.Nat.{ℕ, ◌+◌, ◌%◌, ◌≤◌}
+use mathlib.Core.Bool.{true, cond, false≢true, and-true}
+use mathlib.Core.List.{List, [], ◌∷◌, ◌++◌, append_assoc, append-nil}
+use Prim.Native.Nat.{ℕ, zero, suc, ◌+◌, ◌*◌}
 use native.Mathlib.Omega.{arith}
 use lib.Dec.{eqb}
-use lib.ListN.{length, take, drop, get_or, replicate, length-drop}
-use lib.Seq.{drop-drop}
-use Rattle.lists.proofs.Tests.{truth, and_l, and_r, lt_or_le}
-use Rattle.reading.specs.declared.Read.{Read}
-use Rattle.reading.specs.declared.Read.TheVariants as read
+use lib.ListN.{length, take, drop, get_or, replicate, length-drop, drop_of_length-le}
+use lib.Seq.{drop-cons, drop-drop}
+use Rattle.std.specs.Prelude.{Option, Some, None}
+use Rattle.std.proofs.lemmas.Bool.Decides.{nat_tests}
+use Rattle.lists.proofs.Tests.{truth, lt_or_le}
 use Rattle.columns.specs.Line.{line}
-use Rattle.reading.specs.Reading.{read_column, first_column, Row, with_column, row_of}
+use Rattle.reading.specs.Reading.{same_text, read_column, first_column, Row, with_column, row_of}
 use Rattle.columns.proofs.Writing.{total}
-use Rattle.reading.proofs.Reading.{read_most}
-use Rattle.reading.proofs.Rows.{ended, first_part, first_short, end_one, line_read}
-use Rattle.lines.specs.declared.Six.{Six}
-use Rattle.lines.specs.declared.Line.TheVariants.{Call, Malformed}
+use Rattle.reading.proofs.Rows.{first_part, first_short, line_read}
+use Rattle.rules.specs.declared.Seven.{Seven}
 use Rattle.lines.specs.Line.{call_widths, seven_of, line_in}
-use Rattle.lines.specs.Steps.{read_of}
 
 -- ---- a whole row is as long as its columns and the line feed
-rest_whole : (r : Read) (row : Row) → (with_column r row).whole ≡ true → row.whole ≡ true
-rest_whole (read.Number n) row e = e
-rest_whole read.Malformed row e = absurd (false≢true e)
+rest_whole : (r : Option ℕ) (row : Row) → (with_column r row).whole ≡ true → row.whole ≡ true
+rest_whole (Some n) row e = e
+rest_whole None row e = absurd (false≢true e)
 
 whole_length : (most : ℕ) (ws s : List ℕ) → (row_of most ws s).whole ≡ true → length s ≡ total ws + 1
 unfolding row_of total line
 whole_length most [] s e = ap length (line_read most [] s e).text
 whole_length most (w ∷ ws) s e = elim (lt_or_le (length s) w) [
-  | inl l ↦ absurd (false≢true (rw (first_short most w 0 s (omega arith)) at e))
+  | inl l ↦ absurd (false≢true (rw (first_short most w s (omega arith)) at e))
   | inr l ↦ omega (arith, length-drop w s, whole_length most ws (drop w s) (rest_whole (first_column most w s) (row_of most ws (drop w s)) e))
 ]
 
 -- so a text of another length is malformed
-pub line_other : (s : List ℕ) → (length s ≡ 43 → ⊥) → Malformed ≡ line_in s
+pub line_other : (s : List ℕ) → (length s ≡ 43 → ⊥) → None ≡ line_in s
 unfolding line_in total
 line_other s h = elim (truth (row_of 65535 call_widths s).whole) [
   | inl e ↦ absurd (h (whole_length 65535 call_widths s e))
   | inr e ↦ rw e
 ]
 
--- ---- columns read one after the other, from `at` to the line feed
-pub data ReadFrom (s : List ℕ) : ℕ → List Six → Type 0 where
-  none : ReadFrom s 42 []
-  next : {at : ℕ} {x : Six} {xs : List Six} → read_column 65535 (take 6 (drop at s)) ≡ read_of x → ReadFrom s (at + 6) xs → ReadFrom s at (x ∷ xs)
+-- ---- a line's columns, read one after the other up to the first that holds no number
+module _ (s : List ℕ) where
+  abbrev pub column_at : ℕ → Option ℕ
+  column_at at = read_column 65535 (take 6 (drop at s))
 
-before_end : {s : List ℕ} {at : ℕ} {xs : List Six} → ReadFrom s at xs → at ≤ 42
-before_end none = omega arith
-before_end (next e r) = omega (arith, before_end r)
+  -- what is made of a column's number
+  abbrev pub read_on : Option ℕ → (ℕ → Option Seven) → Option Seven
+  read_on None more = None
+  read_on (Some n) more = more n
 
--- their row
-unfoldable row_from : List Six → Row → Row
-row_from [] end = end
-row_from (x ∷ xs) end = with_column (read_of x) (row_from xs end)
+  -- the numbers ns are read, and so many columns are left, the first of them at `at`; then the line feed is due
+  unfoldable line_from : ℕ → ℕ → List ℕ → Option Seven
+  line_from zero at ns = cond (eqb (get_or s 42 0) 10) (Some (seven_of ns)) None
+  line_from (suc left) at ns = read_on (column_at at) (λ n. line_from left (at + 6) (ns ++ (n ∷ [])))
 
-row_from_lem : {s : List ℕ} {at : ℕ} {xs : List Six} → length s ≡ 43 → ReadFrom s at xs
-    → row_of 65535 (replicate (length xs) 6) (drop at s) ≡ row_from xs (ended (eqb (get_or s 42 0) 10))
-unfolding row_of row_from
-row_from_lem {s} l none = ap ended (end_one 42 s (omega arith))
-row_from_lem {s} {at} l (next e r) =
-    rw (first_part 65535 6 at s (omega (arith, before_end r)), e, drop-drop 6 at s, row_from_lem l r)
+  -- the answer, where row stands behind these numbers
+  abbrev answer : List ℕ → Row → Option Seven
+  answer ns row = cond row.whole (Some (seven_of (ns ++ row.numbers))) None
 
--- it is whole where each column is and the end is
-unfoldable pub all_whole : Bool → List Six → Bool
-all_whole b [] = b
-all_whole b (x ∷ xs) = all_whole (b && x.whole) xs
+  module _ (l : length s ≡ 43) where
+    line_from-is : (left at : ℕ) (ns : List ℕ) → at + 6 * left ≡ 42 → answer ns (row_of 65535 (replicate left 6) (drop at s)) ≡ line_from left at ns
+    unfolding row_of line_from same_text
+    line_from-is zero at ns e =
+        let z : at ≡ 42 = omega arith in
+        rw (z, drop-cons s 42 0 (omega (arith, l)), drop_of_length-le s {i = 43} (omega (arith, l)), and-true, append-nil)
+    line_from-is (suc left) at ns e =
+        go (column_at at) (first_part 65535 6 (drop at s) (omega (arith, length-drop at s, l)))
+        (λ n. line_from-is left (at + 6) (ns ++ (n ∷ [])) (omega arith))
+      where
+        row : Row
+        row = row_of 65535 (replicate left 6) (drop (at + 6) s)
 
-with_whole : (x : Six) (row : Row) → (with_column (read_of x) row).whole ≡ x.whole && row.whole
-unfolding read_of
-with_whole x row = go x.whole refl
-  where
-    go : (t : Bool) → x.whole ≡ t → (with_column (read_of x) row).whole ≡ x.whole && row.whole
-    go true e = rw e
-    go false e = rw e
+        go : (c : Option ℕ) → first_column 65535 6 (drop at s) ≡ c
+            → ((n : ℕ) → answer (ns ++ (n ∷ [])) row ≡ line_from left (at + 6) (ns ++ (n ∷ [])))
+            → answer ns (with_column (first_column 65535 6 (drop at s)) (row_of 65535 (replicate left 6) (drop 6 (drop at s))))
+            ≡ read_on c (λ n. line_from left (at + 6) (ns ++ (n ∷ [])))
+        go None p more = rw p
+        go (Some n) p more = rw (p, drop-drop 6 at s, ← append_assoc ns (n ∷ []) row.numbers) (more n)
 
-whole_from : (b : Bool) (xs : List Six) (end : Row) → b && (row_from xs end).whole ≡ all_whole b xs && end.whole
-unfolding row_from all_whole
-whole_from b [] end = refl
-whole_from b (x ∷ xs) end =
-    rw (with_whole x (row_from xs end), ← and_assoc b x.whole (row_from xs end).whole) (whole_from (b && x.whole) xs end)
+    -- the whole line
+    pub line_is : line_in s ≡ read_on (column_at 0) (λ day. read_on (column_at 6) (λ time. read_on (column_at 12) (λ call.
+        read_on (column_at 18) (λ a. read_on (column_at 24) (λ b. read_on (column_at 30) (λ c. read_on (column_at 36) (λ d.
+        cond (eqb (get_or s 42 0) 10) (Some (seven_of (day ∷ time ∷ call ∷ a ∷ b ∷ c ∷ d ∷ []))) None)))))))
+    unfolding line_in line_from
+    line_is = line_from-is 7 0 [] refl
 
-all_first : (b : Bool) (xs : List Six) → all_whole b xs ≡ true → b ≡ true
-unfolding all_whole
-all_first b [] e = e
-all_first b (x ∷ xs) e = and_l b x.whole (all_first (b && x.whole) xs e)
-
--- and then its numbers are theirs, each one of 16 bits
-abbrev pub narrowed : Six → ℕ
-narrowed x = x.value % 65536
-
-numbers_from : {s : List ℕ} {at : ℕ} {xs : List Six} (b t : Bool) → ReadFrom s at xs → all_whole b xs ≡ true
-    → (row_from xs (ended t)).numbers ≡ map narrowed xs
-unfolding row_from all_whole read_of
-numbers_from b t none e = refl
-numbers_from {s} {at} b t (next {x = x} {xs = xs} q r) e =
-    let w : x.whole ≡ true = and_r b x.whole (all_first (b && x.whole) xs e) in
-    let m = read_most 65535 x.value (take 6 (drop at s)) (q ∙ rw w) in
-    let z : x.value ≡ narrowed x = omega arith in
-    rw (w, ← z, numbers_from (b && x.whole) t r e)
-
--- ---- the line that they make
-pub line_from : {s : List ℕ} {xs : List Six} (t : Bool) → replicate (length xs) 6 ≡ call_widths → length s ≡ 43 → ReadFrom s 0 xs
-    → all_whole true xs && eqb (get_or s 42 0) 10 ≡ t → cond t (Call (seven_of (map narrowed xs))) Malformed ≡ line_in s
-unfolding line_in
-line_from {s} {xs} t c l r h =
-    let end : Row = ended (eqb (get_or s 42 0) 10) in
-    let row : row_of 65535 call_widths s ≡ row_from xs end = rw c at (row_from_lem l r) in
-    rw (row, whole_from true xs end, ← h) (elim (truth (all_whole true xs)) [
-      | inl e ↦ rw (numbers_from true (eqb (get_or s 42 0) 10) r e)
-      | inr e ↦ rw e
-    ])
+-- what the function that reads a line is proved by
+pub ruleset of_a_line = (line_other, line_is, nat_tests)

@@ -15,7 +15,7 @@ use Rattle.reading.specs.Reading.{row_of}
 use Rattle.columns.proofs.Writing.{fits_below, total, line-length}
 use Rattle.reading.proofs.Rows.{at_most, IsLine, line_read}
 use Rattle.rules.specs.declared.Seven.{Seven}
-use Rattle.lines.specs.declared.Line.TheVariants.{Call, Malformed}
+use Rattle.std.specs.Prelude.{Some, None}
 use Rattle.lines.specs.Line.{call_widths, seven_of, line_in}
 
 -- ---- a line that holds a call
@@ -40,14 +40,14 @@ unfolding gets
 seven_numbers ns e = gets_all 7 0 ns (sym e)
 
 -- a line that holds a call is the line of the call's numbers, none above 65535
-pub call_line : (s : List ℕ) (c : Seven) → line_in s ≡ Call c → IsLine 65535 call_widths s (numbers_of c)
+pub call_line : (s : List ℕ) (c : Seven) → line_in s ≡ Some c → IsLine 65535 call_widths s (numbers_of c)
 unfolding line_in
 call_line s c e = go (row_of 65535 call_widths s).whole refl e
   where
     ns : List ℕ
     ns = (row_of 65535 call_widths s).numbers
 
-    go : (t : Bool) → (row_of 65535 call_widths s).whole ≡ t → cond t (Call (seven_of ns)) Malformed ≡ Call c → IsLine 65535 call_widths s (numbers_of c)
+    go : (t : Bool) → (row_of 65535 call_widths s).whole ≡ t → cond t (Some (seven_of ns)) None ≡ Some c → IsLine 65535 call_widths s (numbers_of c)
     go true p q =
         let r = line_read 65535 call_widths s p in
         let same : seven_of ns ≡ c = cc in
@@ -64,7 +64,7 @@ six_fit (n ∷ ns) h =
     (six_fit ns (and_r (leb n 65535) (at_most 65535 ns) h))
 
 -- a line that holds a call is 43 bytes long
-pub call_length : (s : List ℕ) (c : Seven) → line_in s ≡ Call c → length s ≡ 43
+pub call_length : (s : List ℕ) (c : Seven) → line_in s ≡ Some c → length s ≡ 43
 unfolding total
 call_length s c e =
     let l = call_line s c e in

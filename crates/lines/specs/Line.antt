@@ -1,9 +1,7 @@
 -- A line of a text of calls (01, "The journal"). Assumes nothing.
-use Rattle.std.specs.Prelude.{ℕ, cond, List, [], ◌∷◌, get_or}
+use Rattle.std.specs.Prelude.{ℕ, cond, List, [], ◌∷◌, get_or, Option, Some, None}
 use Rattle.reading.specs.Reading.{row_of}
 use Rattle.rules.specs.declared.Seven.{Seven}
-use Rattle.lines.specs.declared.Line.{Line}
-use Rattle.lines.specs.declared.Line.TheVariants.{Call, Malformed}
 
 abbrev pub call_widths : List ℕ
 call_widths = 6 ∷ 6 ∷ 6 ∷ 6 ∷ 6 ∷ 6 ∷ 6 ∷ []
@@ -21,5 +19,5 @@ seven_of ns = record {
 }
 
 -- what a line holds: "the seven numbers in the same columns, 43 bytes a line"; "a number above 65535 makes" a malformed one
-unfoldable pub line_in : List ℕ → Line
-line_in s = cond (row_of 65535 call_widths s).whole (Call (seven_of (row_of 65535 call_widths s).numbers)) Malformed
+unfoldable pub line_in : List ℕ → Option Seven
+line_in s = cond (row_of 65535 call_widths s).whole (Some (seven_of (row_of 65535 call_widths s).numbers)) None

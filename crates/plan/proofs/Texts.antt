@@ -1,45 +1,39 @@
 -- Laws of a plan's text: of one line, of the lines of gates as the loop reads them, and of the whole text. Assumes nothing.
 use mathlib.Core.Path.{◌≡◌, refl, sym, ap, ◌∙◌}
-use mathlib.Core.Bool.{Bool, true, false, cond, ◌&&◌, false≢true, and-false, and_assoc}
+use mathlib.Core.Bool.{Bool, true, false, cond, not, ◌&&◌, and_assoc}
 use mathlib.Core.List.{List, [], ◌∷◌, ◌++◌, append_assoc, append-nil}
-use Prim.Native.Nat.{ℕ, zero, suc, ◌+◌, ◌-◌, ◌*◌, ◌%◌, ◌≤◌, ◌<◌}
+use Prim.Native.Nat.{ℕ, zero, suc, ◌+◌, ◌-◌, ◌*◌, ◌≤◌, ◌<◌}
 use native.Mathlib.Omega.{arith}
 use native.Mathlib.Nat.{sub-zero}
 use borrow.Author.Tests.{leb-true, eq-eqb, ne_eqb}
 use borrow.Author.Rules.{part_to_end}
+use mathlib.Core.Logic.{inl, inr}
+use Rattle.std.proofs.lemmas.List.{take_all}
 use lib.Dec.{eqb, leb}
-use lib.ListN.{length, take, drop, set, get_or, length-set, length-drop}
-use lib.Seq.{drop-drop}
-use Rattle.lists.specs.Prefix.{prefix}
-use Rattle.lists.proofs.Tests.{told, and_i}
-use Rattle.lists.proofs.Prefix.{stored_last}
-use Rattle.reading.specs.declared.Read.{Read}
-use Rattle.reading.specs.declared.Read.TheVariants.{Number, Malformed}
-use Rattle.reading.specs.Reading.{read_column, first_column, Row, with_column, row_of, over, RowRead}
+use lib.ListN.{length, take, drop, get_or, length-append, length-drop}
+use Rattle.std.specs.Prelude.{Option, Some, None}
+use Rattle.lists.proofs.Tests.{told, lt_or_le}
+use Rattle.reading.specs.Reading.{read_column, first_column, Row, with_column, row_of, row_in}
 use Rattle.reading.proofs.Reading.{read_most}
 use Rattle.rules.specs.declared.Gate.{Gate}
-use Rattle.rules.specs.Board.{closed}
-use Rattle.rules.specs.Plan.{plan_widths, plan_line, plan_number, is_head, is_gate, gate_on, are_gates, gates_on, is_plan, open_board}
-use Rattle.plan.specs.declared.text.Line.{Line}
-use Rattle.plan.specs.declared.text.Gates.{Gates}
-use Rattle.plan.specs.Lines.{line_of, is_head_line, is_gate_line, GatesRead, no_plan, PlanRead}
+use Rattle.rules.specs.Board.{opened}
+use Rattle.rules.specs.Plan.{plan_widths, plan_line, plan_number, is_head, is_place, is_gate, gate_on, are_gates, gates_on, is_plan, open_board}
+use Rattle.plan.specs.Lines.{line_in, head_in, gate_in}
 
--- ---- one line
-
--- a number read of a row is at most `most`, and 0 where none is read
-first-most : (most w n : ℕ) (s : List ℕ) → first_column most w s ≡ Number n → n ≤ most
+-- ---- a number read of a row is at most `most`, and 0 where none is read
+first-most : (most w n : ℕ) (s : List ℕ) → first_column most w s ≡ Some n → n ≤ most
 unfolding first_column
 first-most most w n s e = go (leb w (length s)) e
   where
-    go : (t : Bool) → cond t (read_column most (take w s)) Malformed ≡ Number n → n ≤ most
+    go : (t : Bool) → cond t (read_column most (take w s)) None ≡ Some n → n ≤ most
     go true q = read_most most n (take w s) q
-    go false q = let z : ◌≡◌ {A = ℕ} 0 1 = cc in omega arith
+    go false q = cc
 
-number_step : (most i : ℕ) (r : Read) (row : Row) → ((n : ℕ) → r ≡ Number n → n ≤ most) → ((k : ℕ) → get_or row.numbers k 0 ≤ most)
+number_step : (most i : ℕ) (r : Option ℕ) (row : Row) → ((n : ℕ) → r ≡ Some n → n ≤ most) → ((k : ℕ) → get_or row.numbers k 0 ≤ most)
     → get_or (with_column r row).numbers i 0 ≤ most
-number_step most zero (Number n) row h ih = h n refl
-number_step most (suc i) (Number n) row h ih = ih i
-number_step most i Malformed row h ih = omega arith
+number_step most zero (Some n) row h ih = h n refl
+number_step most (suc i) (Some n) row h ih = ih i
+number_step most i None row h ih = omega arith
 
 number_most : (most : ℕ) (ws s : List ℕ) (i : ℕ) → get_or (row_of most ws s).numbers i 0 ≤ most
 unfolding row_of
@@ -47,142 +41,212 @@ number_most most [] s i = omega arith
 number_most most (w ∷ ws) s i =
     number_step most i (first_column most w s) (row_of most ws (drop w s)) (λ n. first-most most w n s) (number_most most ws (drop w s))
 
--- numbers laid over three zeros
-abbrev zeros : List ℕ
-zeros = 0 ∷ 0 ∷ 0 ∷ []
+-- so each number of a whole row is
+pub row_most : (most : ℕ) (ws s ns : List ℕ) (i : ℕ) → Some ns ≡ row_in most ws s → get_or ns i 0 ≤ most
+unfolding row_in
+row_most most ws s ns i e = go (row_of most ws s).whole e
+  where
+    go : (t : Bool) → Some ns ≡ cond t (Some (row_of most ws s).numbers) None → get_or ns i 0 ≤ most
+    go true q = let same : ns ≡ (row_of most ws s).numbers = cc in rw same (number_most most ws s i)
+    go false q = cc
 
-abbrev line_with : Bool → List ℕ → Line
-line_with whole ns = record { whole = whole; x = get_or ns 0 0; y = get_or ns 1 0; z = get_or ns 2 0 }
+-- ---- a text's first line
+pub first_bytes : (n : ℕ) (text : List ℕ) → n ≤ 19 → (n < 19 → length text ≤ n) → take n text ≡ take 19 text
+first_bytes n text h short = elim (lt_or_le n 19) [
+  | inl l ↦ take_all n text (short l) ∙ sym (take_all 19 text (omega (arith, short l)))
+  | inr l ↦ let same : n ≡ 19 = omega arith in rw same
+]
 
-over_zeros : (whole : Bool) (ns : List ℕ) → line_with whole (over ns zeros) ≡ line_with whole ns
-unfolding over
-over_zeros whole [] = refl
-over_zeros whole (a ∷ []) = refl
-over_zeros whole (a ∷ b ∷ []) = refl
-over_zeros whole (a ∷ b ∷ c ∷ ns) = refl
+abbrev first_three : List ℕ → List ℕ
+first_three ns = get_or ns 0 0 ∷ get_or ns 1 0 ∷ get_or ns 2 0 ∷ []
 
-abbrev narrowed : Line → Line
-narrowed l = record { whole = l.whole; x = l.x % 65536; y = l.y % 65536; z = l.z % 65536 }
+module _ (text part : List ℕ) (e : part ≡ take 19 text) where
+  pub line_none : None ≡ row_in 65535 plan_widths part → None ≡ line_in text
+  unfolding row_in line_in plan_line plan_number
+  line_none h = go (row_of 65535 plan_widths (take 19 text)).whole (rw e at h)
+    where
+      ns : List ℕ
+      ns = (row_of 65535 plan_widths (take 19 text)).numbers
 
--- the row in a text's first 19 bytes, read into three zeros, its numbers narrowed, is the line
-pub is_line : (text part places : List ℕ) (answer : Bool) → part ≡ take 19 text → RowRead 65535 part plan_widths zeros places answer
-    → narrowed (line_with answer places) ≡ line_of text
-unfolding line_of plan_line plan_number
-is_line text part places answer e r =
-    let row = row_of 65535 plan_widths part in
-    let small : (i : ℕ) → get_or row.numbers i 0 % 65536 ≡ get_or row.numbers i 0 = λ i. omega (arith, number_most 65535 plan_widths part i) in
-    let same : line_with answer places ≡ line_with row.whole row.numbers =
-    rw (r.answered, r.places) (over_zeros row.whole row.numbers) in
-    ap narrowed same ∙ rw (small 0, small 1, small 2, e)
+      go : (t : Bool) → None ≡ cond t (Some ns) None → None ≡ cond t (Some (first_three ns)) None
+      go true q = cc
+      go false q = refl
 
--- the tests of a line are those of the text that starts with it
-head_line : (text : List ℕ) → is_head_line (line_of text) ≡ is_head text
-unfolding line_of is_head
-head_line text = simp and_assoc
+  pub line_some : (ns : List ℕ) → Some ns ≡ row_in 65535 plan_widths part → Some (first_three ns) ≡ line_in text
+  unfolding row_in line_in plan_line plan_number
+  line_some ns h = go (row_of 65535 plan_widths (take 19 text)).whole (rw e at h)
+    where
+      ms : List ℕ
+      ms = (row_of 65535 plan_widths (take 19 text)).numbers
 
-gate_line : (portions : ℕ) (text : List ℕ) → is_gate_line portions (line_of text) ≡ is_gate portions text
-unfolding line_of is_gate
-gate_line portions text = simp and_assoc
+      go : (t : Bool) → Some ns ≡ cond t (Some ms) None → Some (first_three ns) ≡ cond t (Some (first_three ms)) None
+      go true q = let same : ns ≡ ms = cc in rw same
+      go false q = cc
+
+-- what is known of it where it is none, and where it is three numbers
+line_broken : (text : List ℕ) → None ≡ line_in text → (plan_line text).whole ≡ false
+unfolding line_in
+line_broken text e = go (plan_line text).whole e
+  where
+    go : (t : Bool) → None ≡ cond t (Some (plan_number 0 text ∷ plan_number 1 text ∷ plan_number 2 text ∷ [])) None → t ≡ false
+    go true q = cc
+    go false q = refl
+
+record Three (text ns : List ℕ) : Type 0 where
+  whole : (plan_line text).whole ≡ true
+  x : plan_number 0 text ≡ get_or ns 0 0
+  y : plan_number 1 text ≡ get_or ns 1 0
+  z : plan_number 2 text ≡ get_or ns 2 0
+
+line_three : (text ns : List ℕ) → Some ns ≡ line_in text → Three text ns
+unfolding line_in
+line_three text ns e = go (plan_line text).whole refl e
+  where
+    three : List ℕ
+    three = plan_number 0 text ∷ plan_number 1 text ∷ plan_number 2 text ∷ []
+
+    go : (t : Bool) → (plan_line text).whole ≡ t → Some ns ≡ cond t (Some three) None → Three text ns
+    go true w q =
+        let same : three ≡ ns = cc in
+        record { whole = w; x = ap (λ (l : List ℕ). get_or l 0 0) same; y = ap (λ (l : List ℕ). get_or l 1 0) same; z = ap (λ (l : List ℕ). get_or l 2 0) same }
+    go false w q = cc
+
+-- ---- the tests of a line
+pub head_none : (text : List ℕ) → None ≡ line_in text → None ≡ head_in text
+unfolding head_in is_head
+head_none text e = rw (line_broken text e)
+
+abbrev head_tests : List ℕ → Bool
+head_tests ns = leb 1 (get_or ns 0 0) && leb (get_or ns 0 0) 64 && leb (get_or ns 1 0) 64 && eqb (get_or ns 2 0) 0
+
+pub head_some : (text ns : List ℕ) (t : Bool) → Some ns ≡ line_in text → head_tests ns ≡ t → cond t (Some (get_or ns 0 0, get_or ns 1 0)) None ≡ head_in text
+unfolding head_in is_head
+head_some text ns t e h = let k = line_three text ns e in rw (k.whole, k.x, k.y, k.z, ← h)
+
+pub gate_none : (portions : ℕ) (text : List ℕ) → None ≡ line_in text → None ≡ gate_in portions text
+unfolding gate_in is_gate
+gate_none portions text e = rw (line_broken text e)
+
+abbrev gate_tests : ℕ → List ℕ → Bool
+gate_tests portions ns =
+    is_place portions (get_or ns 0 0) && is_place portions (get_or ns 1 0) && not (eqb (get_or ns 0 0) (get_or ns 1 0)) && leb 1 (get_or ns 2 0)
+    && leb (get_or ns 2 0) 4
+
+abbrev gate_from : List ℕ → Gate
+gate_from ns = record { from = get_or ns 0 0; to = get_or ns 1 0; kind = get_or ns 2 0 }
+
+pub gate_some : (portions : ℕ) (text ns : List ℕ) (t : Bool) → Some ns ≡ line_in text → gate_tests portions ns ≡ t → cond t (Some (gate_from ns)) None ≡ gate_in portions text
+unfolding gate_in is_gate gate_on
+gate_some portions text ns t e h = let k = line_three text ns e in rw (k.whole, k.x, k.y, k.z, ← h, ← and_assoc)
 
 -- ---- the lines of gates, i of them read
-
 module _ (portions count : ℕ) (text : List ℕ) where
-  pub record SoFar (i : ℕ) (gates : List Gate) : Type 0 where
-    pub within : i ≤ count
-    pub room : count ≤ length gates
-    pub lines : are_gates portions count text ≡ are_gates portions (count - i) (drop (19 * i) text)
-    pub read : gates_on count text ≡ prefix i gates ++ gates_on (count - i) (drop (19 * i) text)
+  pub record SoFar (i : ℕ) (gates : List Gate) (lines : List ℕ) : Type 0 where
+    pub held : length gates ≡ i
+    pub left : length lines ≡ 19 * (count - i)
+    pub tested : are_gates portions count text ≡ are_gates portions (count - i) lines
+    pub read : gates_on count text ≡ gates ++ gates_on (count - i) lines
 
-  pub none_yet : (gates : List Gate) → count ≤ length gates → SoFar 0 gates
-  unfolding prefix
-  none_yet gates h = record { within = omega arith; room = h; lines = rw sub-zero; read = rw sub-zero }
+  pub none_yet : length text ≡ 19 * count → SoFar 0 [] text
+  none_yet h = record { held = refl; left = rw (sub-zero, h); tested = rw sub-zero; read = rw sub-zero }
 
-  module _ (i : ℕ) (gates : List Gate) (so_far : SoFar i gates) where
-    pub all_read : count ≤ i → GatesRead portions count text (record { ok = true; gates = gates })
+  module _ (i : ℕ) (gates : List Gate) (lines : List ℕ) (so_far : SoFar i gates lines) where
+    pub all_read : count ≤ i → (true ≡ are_gates portions count text) × (gates ≡ gates_on count text)
     unfolding are_gates gates_on
     all_read h =
-        let all : i ≡ count = omega arith in
         let none : count - i ≡ 0 = omega arith in
-        record { ok = sym (so_far.lines ∙ rw none); gates = λ p. sym (so_far.read ∙ rw (none, append-nil, all)) }
+        (sym (so_far.tested ∙ rw none), sym (so_far.read ∙ rw (none, append-nil)))
 
-    -- line i, as the code takes it
-    module _ (more : i < count) (l : Line) (taken : l ≡ line_of (take (length text - 19 * i) (drop (19 * i) text))) where
-      here : List ℕ
-      here = drop (19 * i) text
+    module _ (more : i < count) where
+      next : count - i ≡ suc (count - (i + 1))
+      next = omega arith
 
-      is_here : l ≡ line_of here
-      unfolding here
-      is_here = taken ∙ ap line_of (part_to_end text (19 * i))
+      pub line_long : 19 ≤ length lines
+      line_long = omega (arith, so_far.left)
 
-      tested : (t : Bool) → is_gate_line portions l ≡ t → is_gate portions here ≡ t
-      tested t e = sym (gate_line portions here) ∙ rw is_here at e
+      pub not_gate : None ≡ gate_in portions lines → false ≡ are_gates portions count text
+      unfolding are_gates gate_in
+      not_gate e = sym (so_far.tested ∙ rw (next, no_gate (is_gate portions lines) e))
+        where
+          no_gate : (t : Bool) → None ≡ cond t (Some (gate_on lines)) None → t ≡ false
+          no_gate true q = cc
+          no_gate false q = refl
 
-      left : count - i ≡ suc (count - (i + 1))
-      left = omega arith
-
-      pub not_gate : is_gate_line portions l ≡ false → GatesRead portions count text (record { ok = false; gates = gates })
-      unfolding are_gates here
-      not_gate e = record { ok = sym (so_far.lines ∙ rw (left, tested false e)); gates = λ p. absurd (false≢true p) }
-
-      pub one_more : is_gate_line portions l ≡ true → SoFar (i + 1) (set gates i (record { from = l.x; to = l.y; kind = l.z }))
-      unfolding are_gates gates_on gate_on line_of here
-      one_more e =
-          let next : 19 * i + 19 ≡ 19 * (i + 1) = omega arith in
+      pub one_more : (g : Gate) → Some g ≡ gate_in portions lines → SoFar (i + 1) (gates ++ (g ∷ [])) (take (length lines - 19) (drop 19 lines))
+      unfolding are_gates gates_on gate_in
+      one_more g e =
+          let k = a_gate (is_gate portions lines) e in
           record {
-            within = omega arith;
-            room = simp length-set so_far.room;
-            lines = so_far.lines ∙ rw (left, tested true e, drop-drop 19 (19 * i) text, next);
-            read =
-                so_far.read ∙ rw (left, is_here, drop-drop 19 (19 * i) text, next, stored_last gates i (gate_on here) (omega arith))
-                (sym (append_assoc (prefix i gates) (gate_on here ∷ []) _));
+            held = omega (arith, length-append gates (g ∷ []), so_far.held);
+            left = rw (part_to_end, length-drop) (omega (arith, so_far.left));
+            tested = so_far.tested ∙ rw (next, k.0, part_to_end);
+            read = so_far.read ∙ rw (next, part_to_end, ← k.1) (sym (append_assoc gates (g ∷ []) _));
           }
+        where
+          a_gate : (t : Bool) → Some g ≡ cond t (Some (gate_on lines)) None → (t ≡ true) × (g ≡ gate_on lines)
+          a_gate true q = (refl, cc)
+          a_gate false q = cc
 
 -- ---- the whole text
+abbrev both : ℕ → ℕ → Option (ℕ × ℕ)
+both p g = Some (p, g)
 
--- its tests, with line one in hand
-abbrev tests : List ℕ → Line → Bool
-tests text l = is_head_line l && eqb (length text) (19 * (1 + l.y)) && are_gates l.x l.y (drop 19 text)
+pub plan_no_head : (text : List ℕ) → None ≡ head_in text → false ≡ is_plan text
+unfolding head_in is_plan
+plan_no_head text e = go (is_head text) refl e
+  where
+    go : (t : Bool) → is_head text ≡ t → None ≡ cond t (both (plan_number 0 text) (plan_number 1 text)) None → false ≡ is_plan text
+    go true h q = cc
+    go false h q = rw h
 
-module _ (text : List ℕ) (l : Line) (taken : l ≡ line_of text) where
-  plan_is : (t : Bool) → tests text l ≡ t → is_plan text ≡ t
-  unfolding is_plan line_of
-  plan_is t e = rw (← head_line text) (rw taken at e)
+record Head (text : List ℕ) (p g : ℕ) : Type 0 where
+  head : is_head text ≡ true
+  portions : plan_number 0 text ≡ p
+  gates : plan_number 1 text ≡ g
 
-  refused : tests text l ≡ false → PlanRead text no_plan
-  unfolding open_board closed prefix
-  refused e = record { ok = sym (plan_is false e); board = rw (plan_is false e); portions = omega arith; gates = omega arith }
+plan_head : (text : List ℕ) (p g : ℕ) → both p g ≡ head_in text → Head text p g
+unfolding head_in
+plan_head text p g e = go (is_head text) refl e
+  where
+    go : (t : Bool) → is_head text ≡ t → both p g ≡ cond t (both (plan_number 0 text) (plan_number 1 text)) None → Head text p g
+    go true h q =
+        let same : ◌≡◌ {A = ℕ × ℕ} (plan_number 0 text, plan_number 1 text) (p, g) = cc in
+        record { head = h; portions = ap (λ (x : ℕ × ℕ). x.0) same; gates = ap (λ (x : ℕ × ℕ). x.1) same }
+    go false h q = cc
 
-  pub not_head : is_head_line l ≡ false → PlanRead text no_plan
-  not_head e = refused (rw e)
+module _ (text : List ℕ) (p n g : ℕ) (e : both p n ≡ head_in text) (count : g ≡ n) where
+  known : Head text p g
+  known = plan_head text p g (rw count e)
 
-  pub not_long : (length text ≡ 19 * (1 + l.y) → ⊥) → PlanRead text no_plan
-  not_long h = refused (rw (ne_eqb _ _ h, and-false))
+  pub plan_not_long : (length text ≡ 19 * (1 + g) → ⊥) → false ≡ is_plan text
+  unfolding is_plan
+  plan_not_long h = rw (known.head, known.portions, known.gates, ne_eqb (length text) (19 * (1 + g)) h)
 
--- line one is as it should be, and the text as long as it says
-pub record HeadRead (text : List ℕ) (l : Line) : Type 0 where
-  pub taken : l ≡ line_of text
-  pub head : is_head_line l ≡ true
-  pub long : length text ≡ 19 * (1 + l.y)
+  module _ (long : length text ≡ 19 * (1 + g)) where
+    -- what reading the gates asks
+    pub gates_asked : (length (take (length text - 19) (drop 19 text)) ≡ 19 * g) × (g ≤ 64)
+    unfolding is_head
+    gates_asked =
+        let small : leb (plan_number 1 text) 64 ≡ true = search (told, known.head) in
+        (rw (part_to_end, length-drop) (omega arith), omega (arith, leb-true (plan_number 1 text) 64 small, known.gates))
 
-module _ (text : List ℕ) (l : Line) (h : HeadRead text l) where
-  -- what reading the gates asks
-  pub gates_asked : (length (take (length text - 19) (drop 19 text)) ≡ 19 * l.y) × (l.y ≤ 64)
-  gates_asked = (rw (part_to_end, length-drop) (omega arith), search (told, leb-true, h.head))
+    plan_is : (t : Bool) → t ≡ are_gates p g (take (length text - 19) (drop 19 text)) → t ≡ is_plan text
+    unfolding is_plan
+    plan_is t h = rw (known.head, known.portions, known.gates, eq-eqb (length text) (19 * (1 + g)) long) (h ∙ rw part_to_end)
 
-  module _ (g : Gates) (read : GatesRead l.x l.y (take (length text - 19) (drop 19 text)) g) where
-    gates_are : (t : Bool) → g.ok ≡ t → are_gates l.x l.y (drop 19 text) ≡ t
-    gates_are t e = sym (rw part_to_end at read.ok) ∙ e
+    pub plan_no_gates : false ≡ are_gates p g (take (length text - 19) (drop 19 text)) → false ≡ is_plan text
+    plan_no_gates h = plan_is false h
 
-    pub not_gates : g.ok ≡ false → PlanRead text no_plan
-    not_gates e = refused text l h.taken (rw (gates_are false e, and-false))
-
-    pub is_read : g.ok ≡ true → PlanRead text (record { ok = true; portions = l.x; gate_count = l.y; gates = g.gates })
-    unfolding open_board line_of
-    is_read e =
-        let all = plan_is text l h.taken true (and_i _ _ (and_i _ _ h.head (eq-eqb _ _ h.long)) (gates_are true e)) in
-        record {
-          ok = sym all;
-          board = rw (all, read.gates e, part_to_end, h.taken);
-          portions = search (told, leb-true, h.head);
-          gates = gates_asked.1;
-        }
+    pub plan_is_read : (gates : List Gate) → true ≡ are_gates p g (take (length text - 19) (drop 19 text))
+        → gates ≡ gates_on g (take (length text - 19) (drop 19 text))
+        → (true ≡ is_plan text) × ((opened p gates ≡ open_board text) × (p ≤ 64))
+    unfolding open_board is_head
+    plan_is_read gates h same =
+        let all = plan_is true h in
+        let small : leb (plan_number 0 text) 64 ≡ true = search (told, known.head) in (
+          all,
+          (
+            rw (← all, known.portions, known.gates, same, part_to_end),
+            omega (arith, leb-true (plan_number 0 text) 64 small, known.portions),
+          ),
+        )

@@ -1,152 +1,90 @@
 // Reading a plan's text: lines of three numbers, the first with P, G and 0, then one for each gate.
-ghost use Rattle.std.specs.Prelude.{◌≡◌, ◌*◌, ◌%◌, ◌≤◌, length};
-ghost use Rattle.rules.specs.Plan.{is_place};
-ghost use Rattle.plan.specs.Lines.{line_of, is_head_line, is_gate_line, no_plan, GatesRead, PlanRead};
+ghost use Rattle.std.specs.Prelude.{◌≡◌, ◌*◌, ◌≤◌, length, IfSome};
+ghost use Rattle.std.specs.Option.{is_some};
+ghost use Rattle.rules.specs.Plan.{is_place, are_gates, gates_on};
+ghost use Rattle.plan.specs.Lines.{line_in, head_in, gate_in, PlanRead};
 
+use arrayvec::ArrayVec;
 use rules::Gate;
 
-// The three numbers of a line; where it is none, zeros from the first column that holds no number.
-#[derive(Clone, Copy)]
-pub struct Line {
-    pub whole: bool,
-    pub x: u16,
-    pub y: u16,
-    pub z: u16,
-}
-
-// The gates read, and whether each line was one.
-#[derive(Clone, Copy)]
-pub struct Gates {
-    pub ok: bool,
-    pub gates: [Gate; 64],
-}
-
-// The plan read, and whether the text was one; no portion and no gate where it was not.
-#[derive(Clone, Copy)]
+// The plan read: how many portions, and the gates in the order of their lines.
+#[derive(Drop)]
 pub struct Plan {
-    pub ok: bool,
     pub portions: u16,
-    pub gate_count: usize,
-    pub gates: [Gate; 64],
+    pub gates: ArrayVec<Gate, 64>,
 }
 
-// A number that is one of 16 bits.
-fn narrow(n: u32) -> u16
-    ensures { result ≡ n % 65536 }
+// The three numbers on the text's first line, of 19 bytes.
+fn read_line(text: &[u8]) -> Option<[u16; 3]>
+    ensures { result ≡ line_in text.now }
 {
-    (n % 65536) as u16
+    let line = &text[..text.len().min(19)];
+    let [x, y, z] = reading::read_row(line, &[6; 3], 65535)?;
+    Some([x as u16, y as u16, z as u16])
 }
 
-// The text's first line of 19 bytes.
-fn read_line(text: &[u8]) -> Line
-    ensures { result ≡ line_of text.now }
+// P and G off line one, which is P, G, 0: P is 1 to 64, G at most 64.
+fn read_head(text: &[u8]) -> Option<(u16, u16)>
+    ensures { result ≡ head_in text.now }
 {
-    let mut end = text.len();
-    if 19 < end {
-        end = 19;
+    let [portions, gates, end] = read_line(text)?;
+    let is_head = (1 <= portions) & (portions <= 64) & (gates <= 64) & (end == 0);
+    if is_head {
+        Some((portions, gates))
+    } else {
+        None
     }
-    let mut numbers = [0u32; 3];
-    let whole = reading::read_row(&text[0..end], &[6u8; 3], 65535, &mut numbers);
-    Line {
-        whole,
-        x: narrow(numbers[0]),
-        y: narrow(numbers[1]),
-        z: narrow(numbers[2]),
-    }
-}
-
-// Line one is P, G, 0: P is 1 to 64, G at most 64.
-fn is_head(l: Line) -> bool
-    ensures { result ≡ is_head_line l }
-{
-    l.whole & (1 <= l.x) & (l.x <= 64) & (l.y <= 64) & (l.z == 0)
 }
 
 // A portion of the board, or 99 for outside.
+#[tactic(auto, unfolding(rules::specs::Plan::is_place))]
 fn is_place(portions: u16, place: u16) -> bool
     ensures { result ≡ is_place portions place }
 {
     (place < portions) | (place == 99)
 }
 
-// From and to are places and differ, and the kind is 1 to 4.
-fn is_gate(portions: u16, l: Line) -> bool
-    ensures { result ≡ is_gate_line portions l }
+// The gate on the text's first line: from and to are places and differ, and the kind is 1 to 4.
+fn read_gate(text: &[u8], portions: u16) -> Option<Gate>
+    ensures { result ≡ gate_in portions text.now }
 {
-    l.whole
-        & is_place(portions, l.x)
-        & is_place(portions, l.y)
-        & (l.x != l.y)
-        & (1 <= l.z)
-        & (l.z <= 4)
+    let [from, to, kind] = read_line(text)?;
+    let is_gate = is_place(portions, from)
+        & is_place(portions, to)
+        & (from != to)
+        & (1 <= kind)
+        & (kind <= 4);
+    if is_gate {
+        Some(Gate { from, to, kind })
+    } else {
+        None
+    }
 }
 
 // The gates on the lines of a text of that many lines.
-fn read_gates(text: &[u8], portions: u16, count: usize) -> Gates
+fn read_gates(text: &[u8], portions: u16, count: usize) -> Option<ArrayVec<Gate, 64>>
     requires { (length text.now ≡ 19 * count) × (count ≤ 64) }
-    ensures { GatesRead portions count text.now result }
+    ensures some { is_some result ≡ are_gates portions count text.now }
+    ensures gates { IfSome result (λ gates. gates.items ≡ gates_on count text.now) }
 {
-    let none = Gate {
-        from: 0,
-        to: 0,
-        kind: 0,
-    };
-    let mut gates = [none; 64];
-    let mut i: usize = 0;
-    while i < count {
-        let at = 19 * i;
-        let l = read_line(&text[at..]);
-        if !is_gate(portions, l) {
-            return Gates { ok: false, gates };
-        }
-        gates[i] = Gate {
-            from: l.x,
-            to: l.y,
-            kind: l.z,
-        };
-        i += 1;
+    let mut gates = ArrayVec::new();
+    let mut lines = text;
+    for _line in 0..count {
+        gates.push(read_gate(lines, portions)?);
+        lines = &lines[19..];
     }
-    Gates { ok: true, gates }
-}
-
-// No plan.
-fn refused() -> Plan
-    ensures { result ≡ no_plan }
-{
-    let none = Gate {
-        from: 0,
-        to: 0,
-        kind: 0,
-    };
-    Plan {
-        ok: false,
-        portions: 0,
-        gate_count: 0,
-        gates: [none; 64],
-    }
+    Some(gates)
 }
 
 // The plan in a text, of any bytes and any length.
-pub fn read_plan(text: &[u8]) -> Plan
+pub fn read_plan(text: &[u8]) -> Option<Plan>
     ensures { PlanRead text.now result }
 {
-    let head = read_line(text);
-    if !is_head(head) {
-        return refused();
-    }
-    let count = head.y as usize;
+    let (portions, gate_count) = read_head(text)?;
+    let count = usize::from(gate_count);
     if text.len() != 19 * (1 + count) {
-        return refused();
+        return None;
     }
-    let g = read_gates(&text[19..], head.x, count);
-    if !g.ok {
-        return refused();
-    }
-    let gates = g.gates;
-    Plan {
-        ok: true,
-        portions: head.x,
-        gate_count: count,
-        gates,
-    }
+    let gates = read_gates(&text[19..], portions, count)?;
+    Some(Plan { portions, gates })
 }

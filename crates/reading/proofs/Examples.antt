@@ -5,7 +5,7 @@ use lib.ListN.{replicate}
 use Rattle.columns.specs.Text.{bytes}
 use Rattle.columns.specs.Column.{digits_in, digits, column}
 use Rattle.columns.proofs.Examples.{e1, e1_bytes}
-use Rattle.reading.specs.declared.Read.TheVariants.{Number, Malformed}
+use Rattle.std.specs.Prelude.{Some, None}
 use Rattle.reading.specs.Reading.{same_text, value_from, is_column, read_column, first_column, row_of}
 
 -- the line of E1
@@ -14,28 +14,28 @@ unfolding digits_in digits column same_text value_from is_column read_column fir
 e1_read = refl
 
 -- no leading zeros
-pub leading_zeros : read_column 65535 (bytes "   007") ≡ Malformed
+pub leading_zeros : read_column 65535 (bytes "   007") ≡ None
 unfolding digits_in digits column same_text value_from is_column read_column bytes
 leading_zeros = refl
 
 -- right-justified
-pub left_justified : read_column 65535 (bytes " 7    ") ≡ Malformed
+pub left_justified : read_column 65535 (bytes " 7    ") ≡ None
 unfolding digits_in digits column same_text value_from is_column read_column bytes
 left_justified = refl
 
 -- blanks alone are no number; 0 is one digit; 65535 is the greatest number of 16 bits
-pub blank : read_column 65535 (bytes "      ") ≡ Malformed
+pub blank : read_column 65535 (bytes "      ") ≡ None
 unfolding digits_in digits column same_text value_from is_column read_column bytes
 blank = refl
 
-pub nought : read_column 65535 (bytes "     0") ≡ Number 0
+pub nought : read_column 65535 (bytes "     0") ≡ Some 0
 unfolding digits_in digits column same_text value_from is_column read_column bytes
 nought = refl
 
-pub greatest : read_column 65535 (bytes " 65535") ≡ Number 65535
+pub greatest : read_column 65535 (bytes " 65535") ≡ Some 65535
 unfolding digits_in digits column same_text value_from is_column read_column bytes
 greatest = refl
 
-pub too_great : read_column 65535 (bytes " 65536") ≡ Malformed
+pub too_great : read_column 65535 (bytes " 65536") ≡ None
 unfolding digits_in digits column same_text value_from is_column read_column bytes
 too_great = refl

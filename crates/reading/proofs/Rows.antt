@@ -1,21 +1,21 @@
 -- Laws of reading a row of columns, each for all numbers, widths and greatest numbers, and the steps of the loop that reads one. Assumes nothing.
 use mathlib.Core.Path.{◌≡◌, refl, sym, ap, ap₂, ◌∙◌}
-use mathlib.Core.Logic.{⊎_elim}
-use mathlib.Core.Bool.{Bool, true, false, cond, ◌&&◌, false≢true, and-true}
+use mathlib.Core.Bool.{Bool, true, false, cond, ◌&&◌, false≢true, and-true, and-false}
 use mathlib.Core.List.{List, [], ◌∷◌, ◌++◌, append_assoc, append-nil}
-use Prim.Native.Nat.{ℕ, suc, ◌+◌, ◌-◌, ◌≤◌, ◌<◌}
+use Prim.Native.Nat.{ℕ, suc, ◌+◌, ◌≤◌, ◌<◌}
 use native.Mathlib.Omega.{arith}
 use native.Mathlib.Numerals.{add-one}
-use borrow.Author.Tests.{eq-eqb, ne_eqb, le-leb, lt-leb, leb-true}
+use borrow.Author.Tests.{ne_eqb, le-leb, lt-leb, leb-true}
 use lib.Dec.{eqb, leb}
-use lib.ListN.{length, take, drop, set, get_or, length-append, length-drop, take-append-drop, drop_of_length-le}
-use lib.Seq.{take_at, drop_at, drop-cons, drop-drop, drop-set-lt, take-suc-set, length-take-le}
-use Rattle.lists.proofs.Tests.{truth, and_l, and_r, and_i}
-use Rattle.reading.specs.declared.Read.{Read}
-use Rattle.reading.specs.declared.Read.TheVariants.{Number, Malformed}
+use lib.ListN.{length, take, drop, set, get_or, length-append, length-set, take-append-drop, drop_of_length-le}
+use lib.Seq.{take_at, drop_at, drop-cons, take-suc-set, length-take-le}
+use Rattle.lists.proofs.Tests.{and_l, and_r, and_i}
+use Rattle.std.specs.Prelude.{Option, Some, None}
+use Rattle.std.specs.List.{IsSplitAt}
+use Rattle.std.proofs.lemmas.List.{take_all}
 use Rattle.columns.specs.Column.{column, fits}
 use Rattle.columns.specs.Line.{line, all_fit}
-use Rattle.reading.specs.Reading.{same_text, read_column, first_column, Row, with_column, row_of, over, RowRead}
+use Rattle.reading.specs.Reading.{same_text, read_column, first_column, Row, with_column, row_of, row_in}
 use Rattle.reading.proofs.Scan.{unread}
 use Rattle.reading.proofs.Texts.{same_eq}
 use Rattle.columns.proofs.Writing.{column-length}
@@ -28,17 +28,17 @@ at_most most (n ∷ ns) = leb n most && at_most most ns
 
 -- a number's column at the front of a text is read as that number, and no other is
 module _ (most w n : ℕ) where
-  first_column_lem : (s : List ℕ) → fits w n ≡ true → n ≤ most → first_column most w (column w n ++ s) ≡ Number n
+  first_column_lem : (s : List ℕ) → fits w n ≡ true → n ≤ most → first_column most w (column w n ++ s) ≡ Some n
   unfolding first_column
   first_column_lem s f h =
       let l : w ≤ length (column w n ++ s) = omega (arith, length-append (column w n) s, column-length w n f) in
       rw (le-leb w (length (column w n ++ s)) l, take_at (column w n) s w (column-length w n f)) (read_column_lem most w n f h)
 
-  first_read : (s : List ℕ) → first_column most w s ≡ Number n → (take w s ≡ column w n) × (n ≤ most)
+  first_read : (s : List ℕ) → first_column most w s ≡ Some n → (take w s ≡ column w n) × (n ≤ most)
   unfolding first_column
   first_read s e = go (leb w (length s)) refl e
     where
-      go : (t : Bool) → leb w (length s) ≡ t → cond t (read_column most (take w s)) Malformed ≡ Number n → (take w s ≡ column w n) × (n ≤ most)
+      go : (t : Bool) → leb w (length s) ≡ t → cond t (read_column most (take w s)) None ≡ Some n → (take w s ≡ column w n) × (n ≤ most)
       go true p q =
           (rw (length-take-le w s (leb-true w (length s) p)) at (column_read most n (take w s) q), read_most most n (take w s) q)
       go false p q = unread q
@@ -69,9 +69,9 @@ line_read most (w ∷ ws) s e = go (first_column most w s) refl e (line_read mos
     row : Row
     row = row_of most ws (drop w s)
 
-    go : (r : Read) → first_column most w s ≡ r → (with_column r row).whole ≡ true → (row.whole ≡ true → IsLine most ws (drop w s) row.numbers)
+    go : (r : Option ℕ) → first_column most w s ≡ r → (with_column r row).whole ≡ true → (row.whole ≡ true → IsLine most ws (drop w s) row.numbers)
         → IsLine most (w ∷ ws) s (with_column r row).numbers
-    go (Number n) p q ih =
+    go (Some n) p q ih =
         let r = ih q in
         let f = first_read most w n s p in
         record {
@@ -79,7 +79,30 @@ line_read most (w ∷ ws) s e = go (first_column most w s) refl e (line_read mos
           count = ap suc r.count;
           small = and_i (leb n most) (at_most most row.numbers) (le-leb n most f.1) r.small;
         }
-    go Malformed p q ih = absurd (false≢true q)
+    go None p q ih = absurd (false≢true q)
+
+-- ---- the first column of a text, and what stands behind it
+module _ (most w : ℕ) (s : List ℕ) where
+  pub first_short : length s < w → first_column most w s ≡ None
+  unfolding first_column
+  first_short h = rw (lt-leb w (length s) h)
+
+  pub first_part : w ≤ length s → first_column most w s ≡ read_column most (take w s)
+  unfolding first_column
+  first_part h = rw (le-leb w (length s) h)
+
+-- a text is the line feed where its only byte is
+pub end_one : (s : List ℕ) → length s ≡ 1 → same_text s (10 ∷ []) ≡ eqb (get_or s 0 0) 10
+unfolding same_text
+end_one [] e = absurd (omega arith)
+end_one (b ∷ []) e = and-true (eqb b 10)
+end_one (b ∷ c ∷ s) e = absurd (omega arith)
+
+pub end_other : (s : List ℕ) → (length s ≡ 1 → get_or s 0 0 ≡ 10 → ⊥) → same_text s (10 ∷ []) ≡ false
+unfolding same_text
+end_other [] h = refl
+end_other (b ∷ []) h = rw (ne_eqb b 10 (h refl))
+end_other (b ∷ c ∷ s) h = and-false (eqb b 10)
 
 -- ---- the loop: the numbers read so far, and behind them the row of the columns left, in which nothing more may be read
 abbrev pub behind : List ℕ → Row → Row
@@ -88,63 +111,61 @@ behind ns row = record { numbers = ns ++ row.numbers; whole = row.whole }
 abbrev pub ended : Bool → Row
 ended whole = record { numbers = []; whole = whole }
 
--- the columns from k on: the first holds no number, it holds n, or there is none
-module _ (most at k : ℕ) (ws s : List ℕ) where
-  pub row_bad : k < length ws → first_column most (get_or ws k 0) (drop at s) ≡ Malformed → row_of most (drop k ws) (drop at s) ≡ ended false
-  unfolding row_of
-  row_bad h e = rw (drop-cons ws k 0, e)
+module _ (most : ℕ) (ws s : List ℕ) where
+  -- k columns are read, and rest stands behind them
+  pub record SoFar (k : ℕ) (numbers rest : List ℕ) : Type 0 where
+    pub places : length numbers ≡ length ws
+    pub row : row_of most ws s ≡ behind (take k numbers) (row_of most (drop k ws) rest)
 
-  pub row_step : (n : ℕ) (out : List ℕ) → k < length ws → k < length out → first_column most (get_or ws k 0) (drop at s) ≡ Number n
-      → behind (take k out) (row_of most (drop k ws) (drop at s))
-      ≡ behind (take (k + 1) (set out k n)) (row_of most (drop (k + 1) ws) (drop (at + get_or ws k 0) s))
-  unfolding row_of
-  row_step n out h l e =
-      let m = row_of most (drop (suc k) ws) (drop (at + get_or ws k 0) s) in
-      rw (add-one, drop-cons ws k 0 h, e, drop-drop (get_or ws k 0) at s, take-suc-set out k n l)
-      (ap (λ (ns : List ℕ). record { numbers = ns; whole = m.whole }) (sym (append_assoc (take k out) (n ∷ []) m.numbers)))
+  pub none_yet : (numbers : List ℕ) → length numbers ≡ length ws → SoFar 0 numbers s
+  none_yet numbers e = record { places = e; row = refl }
 
-  pub row_end : length ws ≤ k → row_of most (drop k ws) (drop at s) ≡ ended (same_text (drop at s) (10 ∷ []))
-  unfolding row_of
-  row_end h = rw (drop_of_length-le ws h)
+  module _ (k : ℕ) (numbers rest : List ℕ) (so_far : SoFar k numbers rest) where
+    -- the answer, where nothing more is read
+    row_ended : (whole : Bool) → row_of most (drop k ws) rest ≡ ended whole → row_in most ws s ≡ cond whole (Some (take k numbers)) None
+    unfolding row_in
+    row_ended whole e = rw (so_far.row, e, append-nil (take k numbers))
 
--- the first column of what is left of a text
-module _ (most w at : ℕ) (s : List ℕ) where
-  pub first_short : length s - at < w → first_column most w (drop at s) ≡ Malformed
-  unfolding first_column
-  first_short h = rw (length-drop at s, lt-leb w (length s - at) h)
+    row_stop : k < length ws → first_column most (get_or ws k 0) rest ≡ None → None ≡ row_in most ws s
+    unfolding row_of
+    row_stop h e = sym (row_ended false (rw (drop-cons ws k 0, e)))
 
-  pub first_part : w ≤ length s - at → first_column most w (drop at s) ≡ read_column most (take w (drop at s))
-  unfolding first_column
-  first_part h = rw (length-drop at s, le-leb w (length s - at) h)
+    row_more : (n : ℕ) → k < length ws → first_column most (get_or ws k 0) rest ≡ Some n
+        → SoFar (k + 1) (set numbers k n) (drop (get_or ws k 0) rest)
+    unfolding row_of
+    row_more n h e =
+        let m = row_of most (drop (suc k) ws) (drop (get_or ws k 0) rest) in
+        let l : k < length numbers = omega (arith, so_far.places) in
+        record {
+          places = simp length-set so_far.places;
+          row =
+              so_far.row ∙ rw (add-one, drop-cons ws k 0 h, e, take-suc-set numbers k n l)
+              (ap (λ (ns : List ℕ). record { numbers = ns; whole = m.whole }) (sym (append_assoc (take k numbers) (n ∷ []) m.numbers)));
+        }
 
--- what is left is the line feed
-module _ (at : ℕ) (s : List ℕ) where
-  pub end_other : (length s - at ≡ 1 → ⊥) → same_text (drop at s) (10 ∷ []) ≡ false
-  end_other h =
-      ⊎_elim
-      (λ (e : same_text (drop at s) (10 ∷ []) ≡ true). absurd (h (sym (length-drop at s) ∙ ap length (same_eq (drop at s) (10 ∷ []) e))))
-      (λ e. e)
-      (truth (same_text (drop at s) (10 ∷ [])))
+    -- the column at k, w bytes wide: it is cut short, or it is split off what is left
+    module _ (w : ℕ) (width : w ≡ get_or ws k 0) (more : k < length ws) where
+      pub row_short : length rest < w → None ≡ row_in most ws s
+      row_short h = row_stop more (rw (← width) (first_short most w rest h))
 
-  pub end_one : length s - at ≡ 1 → same_text (drop at s) (10 ∷ []) ≡ eqb (get_or s at 0) 10
-  unfolding same_text
-  end_one h = rw (drop-cons s at 0 (omega arith), drop_of_length-le s {i = suc at} (omega arith)) (and-true (eqb (get_or s at 0) 10))
+      module _ (column left : List ℕ) (parts : IsSplitAt rest w column left) where
+        read : first_column most (get_or ws k 0) rest ≡ read_column most column
+        read = rw (← width, parts.1) (first_part most w rest parts.0)
 
--- the places after the one just written stay
-pub rest_stays : (k n : ℕ) (out before : List ℕ) → drop k out ≡ drop k before → drop (k + 1) (set out k n) ≡ drop (k + 1) before
-rest_stays k n out before e = drop-set-lt (k + 1) out k n (omega arith) ∙ sym (drop-drop 1 k out) ∙ ap (drop 1) e ∙ drop-drop 1 k before
+        pub row_bad : None ≡ read_column most column → None ≡ row_in most ws s
+        row_bad e = row_stop more (read ∙ sym e)
 
--- the answer where k numbers are read and no more, and where there are not as many places as columns
-pub row_read : (most k : ℕ) (s ws before after : List ℕ) (answer : Bool) → length ws ≡ length before → k ≤ length after → drop k after ≡ drop k before
-    → row_of most ws s ≡ behind (take k after) (ended answer) → RowRead most s ws before after answer
-unfolding over
-row_read most k s ws before after answer p h d e =
-    let l : length (take k after) ≡ k = length-take-le k after h in
-    record {
-      answered = rw (eq-eqb (length ws) (length before) p, e);
-      places = rw (eq-eqb (length ws) (length before) p, e, append-nil (take k after), l, ← d) (sym (take-append-drop k after));
-    }
+        pub row_next : (n : ℕ) → Some n ≡ read_column most column → SoFar (k + 1) (set numbers k n) left
+        row_next n e = rw (parts.2, width) (row_more n more (read ∙ sym e))
 
-pub row_unread : (most : ℕ) (s ws before : List ℕ) → (length ws ≡ length before → ⊥) → RowRead most s ws before before false
-row_unread most s ws before h =
-    record { answered = rw (ne_eqb (length ws) (length before) h); places = rw (ne_eqb (length ws) (length before) h) }
+    row_end : (whole : Bool) → length ws ≤ k → same_text rest (10 ∷ []) ≡ whole → row_of most (drop k ws) rest ≡ ended whole
+    unfolding row_of
+    row_end whole h e = rw (drop_of_length-le ws h, e)
+
+    pub row_whole : length ws ≤ k → same_text rest (10 ∷ []) ≡ true → Some numbers ≡ row_in most ws s
+    row_whole h e =
+        let all : take k numbers ≡ numbers = take_all k numbers (omega (arith, so_far.places)) in
+        sym (rw all at (row_ended true (row_end true h e)))
+
+    pub row_other : length ws ≤ k → same_text rest (10 ∷ []) ≡ false → None ≡ row_in most ws s
+    row_other h e = sym (row_ended false (row_end false h e))

@@ -1,7 +1,5 @@
 -- Reading numbers in columns: a text is a number where it is what `column` writes for that number. Assumes nothing.
-use Rattle.std.specs.Prelude.{ℕ, suc, ◌+◌, ◌-◌, ◌*◌, Bool, true, false, cond, ◌&&◌, List, [], ◌∷◌, ◌++◌, ◌≡◌, eqb, leb, ltb, length, take, drop}
-use Rattle.reading.specs.declared.Read.{Read}
-use Rattle.reading.specs.declared.Read.TheVariants.{Number, Malformed}
+use Rattle.std.specs.Prelude.{ℕ, suc, ◌+◌, ◌-◌, ◌*◌, Bool, true, false, cond, ◌&&◌, List, [], ◌∷◌, eqb, leb, ltb, length, take, drop, Option, Some, None}
 use Rattle.columns.specs.Column.{column}
 
 -- two texts are the same, byte for byte
@@ -30,12 +28,12 @@ unfoldable pub is_column : ℕ → List ℕ → Bool
 is_column n s = same_text s (column (length s) n)
 
 -- the number in a text, where it is one in columns and at most `most`
-unfoldable pub read_column : ℕ → List ℕ → Read
-read_column most s = cond (is_column (value_from 0 s) s && leb (value_from 0 s) most) (Number (value_from 0 s)) Malformed
+unfoldable pub read_column : ℕ → List ℕ → Option ℕ
+read_column most s = cond (is_column (value_from 0 s) s && leb (value_from 0 s) most) (Some (value_from 0 s)) None
 
 -- the number in the first w bytes of a text; a column cut short holds none
-unfoldable pub first_column : ℕ → ℕ → List ℕ → Read
-first_column most w s = cond (leb w (length s)) (read_column most (take w s)) Malformed
+unfoldable pub first_column : ℕ → ℕ → List ℕ → Option ℕ
+first_column most w s = cond (leb w (length s)) (read_column most (take w s)) None
 
 -- what is read of a row of columns: the numbers up to the first column that holds none, and whether the whole text
 -- is such a row, with a number in each column, then a line feed and no more
@@ -46,23 +44,14 @@ pub record Row : Type 0 where
 abbrev pub end_of_row : List ℕ → Row
 end_of_row s = record { numbers = []; whole = same_text s (10 ∷ []) }
 
-abbrev pub with_column : Read → Row → Row
-with_column (Number n) row = record { numbers = n ∷ row.numbers; whole = row.whole }
-with_column Malformed row = record { numbers = []; whole = false }
+abbrev pub with_column : Option ℕ → Row → Row
+with_column (Some n) row = record { numbers = n ∷ row.numbers; whole = row.whole }
+with_column None row = record { numbers = []; whole = false }
 
 unfoldable pub row_of : ℕ → List ℕ → List ℕ → Row
 row_of most [] s = end_of_row s
 row_of most (w ∷ widths) s = with_column (first_column most w s) (row_of most widths (drop w s))
 
--- numbers laid over the front of a list, later places as they were
-unfoldable pub over : List ℕ → List ℕ → List ℕ
-over numbers places = numbers ++ drop (length numbers) places
-
--- what reading a row into lent places answers, and the places that it leaves: as many places as columns are asked for,
--- and where there are more or fewer, nothing is read
-abbrev pub placed : List ℕ → List ℕ → Bool
-placed widths places = eqb (length widths) (length places)
-
-pub record RowRead (most : ℕ) (text widths before after : List ℕ) (answer : Bool) : Type 0 where
-  pub answered : answer ≡ (placed widths before && (row_of most widths text).whole)
-  pub places : after ≡ cond (placed widths before) (over (row_of most widths text).numbers before) before
+-- the numbers of a text that is such a row from its first byte to its last
+unfoldable pub row_in : ℕ → List ℕ → List ℕ → Option (List ℕ)
+row_in most widths s = cond (row_of most widths s).whole (Some (row_of most widths s).numbers) None

@@ -1,13 +1,15 @@
--- `reading::blanks_of` meets its contract. The loop's invariant: each byte passed is one blank of the text. Assumes nothing.
-use Rattle.std.proofs.Common.{arith}
-use Rattle.reading.proofs.Scan.{blanks_step, blanks_stop, blanks_end}
+-- `reading::blanks_of` meets its contract: the blanks are as many as are taken from the text's front. Assumes nothing.
+use Rattle.std.proofs.Common.{◌∙◌, sym, ◌==◌, rules, tests}
+use Rattle.std.proofs.lemmas.Iterator.{YieldsList-from_slice}
+use Rattle.std.proofs.lemmas.Iterator.Consumers.{count_from_yields_List}
+use Rattle.std.proofs.lemmas.Iterator.Search.{YieldsList-from_take_while}
+use Rattle.std.proofs.lemmas.List.Folds.{length-prefix_len}
+use Rattle.reading.proofs.Scan.{blanks_taken}
 use Rattle.reading.proofs.blanks_of.Goals as goal
 
-pub returns-then-text-i-ne32 : goal.returns-then-text-i-ne32
-returns-then-text-i-ne32 c = omega (arith, blanks_stop c.loop-i.i c.args.text.now (omega arith) c.if-text-i-ne32.true)
-
-pub loop-i-preserved : goal.loop-i-preserved
-loop-i-preserved c = omega (arith, blanks_step c.loop-i.i c.args.text.now (omega arith) c.if-text-i-ne32.false)
-
 pub returns : goal.returns
-returns c = omega (arith, blanks_end c.loop-i.i c.args.text.now (omega arith))
+returns c =
+    count_from_yields_List c.take_while.result _ c.count.ensures.ran
+    (YieldsList-from_take_while _ (λ b. b == 32) (YieldsList-from_slice c.args.text.now (cc)) c.take_while.ensures.closure
+    c.take_while.ensures.done (λ x b q k. search (rules, tests)))
+    ∙ length-prefix_len (λ b. b == 32) c.args.text.now ∙ sym (blanks_taken c.args.text.now)

@@ -1,9 +1,7 @@
-use Rattle.std.proofs.Common.{◌-◌, ◌≤◌, ◌≡◌, length, drop}
+use Rattle.std.proofs.Common.{◌≤◌, ◌≡◌, drop}
 use Rattle.reading.specs.Steps.{scan_digits}
 use Rattle.reading.proofs.number_from.Given as goal
 
-abbrev pub invariant-loop-i : goal.invariant-loop-i
-invariant-loop-i l = (l.i ≤ length l.text) × (l.n ≤ l.most) × (scan_digits l.most 0 (drop l.at l.text) ≡ scan_digits l.most l.n (drop l.i l.text))
-
-abbrev pub decreases-loop-i : goal.decreases-loop-i
-decreases-loop-i l = length l.text - l.i
+abbrev pub invariant-loop-byte : goal.invariant-loop-byte
+invariant-loop-byte l =
+    (l.number ≤ l.most) × (scan_digits l.most 0 l.digits ≡ scan_digits l.most l.number (drop l.byte-index l.digits))

@@ -1,41 +1,30 @@
 -- `reading::read_column` meets its contract, by the laws of the scan. Assumes nothing.
-use Rattle.std.proofs.Common.{◌≤◌, ◌∙◌, arith, length}
+use Rattle.std.proofs.Common.{◌≡◌, ℕ, ◌-◌, sym, ◌∙◌, arith, List, length, take, drop}
+use borrow.Author.Rules.{part_to_end}
+use borrow.Author.Tests.{eqb-true, eqb-false}
+use Rattle.reading.specs.Reading.{blanks}
 use Rattle.reading.proofs.Scan.{blanks_le}
-use Rattle.reading.proofs.Reading.{read_none, read_zero, read_zeros, read_digits}
+use Rattle.reading.proofs.Reading.{read_none, read_zeros, read_digits}
 use Rattle.reading.proofs.read_column.Goals as goal
-use Rattle.reading.proofs.read_column.Goals.{After-blanks_of-at}
 
--- the blanks end within the text
-within : (c : After-blanks_of-at) → c.blanks_of-at.result ≤ length c.args.text.now
-within c = omega (arith, blanks_le c.args.text.now)
+-- the part that the code takes is what stands behind the blanks
+behind : (s : List ℕ) (at : ℕ) → at ≡ blanks s → take (length s - at) (drop at s) ≡ drop (blanks s) s
+behind s at e = rw (part_to_end, e)
 
-pub returns-then-at-text : goal.returns-then-at-text
-returns-then-at-text c =
-    read_none c.args.most c.blanks_of-at.result c.args.text.now c.blanks_of-at.ensures (omega arith)
+pub slice_bounds-digits-count : goal.slice_bounds-digits-count
+slice_bounds-digits-count c = omega (arith, blanks_le c.args.text.now)
 
-pub bounds-text-at : goal.bounds-text-at
-bounds-text-at c = omega (arith, within (goal.at.bounds-text-at c).After-blanks_of-at)
+pub slice_bounds-digits-start : goal.slice_bounds-digits-start
+slice_bounds-digits-start c = omega (arith, blanks_le c.args.text.now)
 
-pub overflow_add-at : goal.overflow_add-at
-overflow_add-at c = omega (arith, within (goal.at.overflow_add-at c).After-blanks_of-at)
+pub returns-then-is_empty : goal.returns-then-is_empty
+returns-then-is_empty c =
+    read_none _ _ _ (behind _ _ c.blanks_of.ensures) (eqb-true _ _ (sym c.is_empty.ensures ∙ c.if-is_empty.true))
 
-pub returns-then-at-text-2 : goal.returns-then-at-text-2
-returns-then-at-text-2 c =
-    read_zero c.args.most c.blanks_of-at.result c.args.text.now c.blanks_of-at.ensures (omega arith)
-    c.if-text-at-eq48.true
-
-pub returns-then-text-at-eq48 : goal.returns-then-text-at-eq48
-returns-then-text-at-eq48 c =
-    read_zeros c.args.most c.blanks_of-at.result c.args.text.now c.blanks_of-at.ensures
-    (omega (arith, within (goal.at.returns-then-text-at-eq48 c).After-blanks_of-at))
-    c.if-text-at-eq48.true
-
-pub number_from-requires : goal.number_from-requires
-number_from-requires c = within (goal.at.number_from-requires c).After-blanks_of-at
+pub returns-then-has_leading_zero : goal.returns-then-has_leading_zero
+returns-then-has_leading_zero c = read_zeros _ _ _ (behind _ _ c.blanks_of.ensures) c.if-has_leading_zero.true
 
 pub returns : goal.returns
 returns c =
-    c.number_from.ensures
-    ∙ read_digits c.args.most c.blanks_of-at.result c.args.text.now c.blanks_of-at.ensures
-    (omega (arith, within (goal.at.returns c).After-blanks_of-at))
-    c.if-text-at-eq48.false
+    let some = eqb-false _ _ (sym c.is_empty.ensures ∙ c.if-is_empty.false) in
+    c.number_from.ensures ∙ read_digits _ _ _ (behind _ _ c.blanks_of.ensures) some c.if-has_leading_zero.false

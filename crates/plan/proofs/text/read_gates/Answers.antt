@@ -1,27 +1,31 @@
--- `plan::text::read_gates` meets its contract. The loop's invariant, `SoFar`: the whole is the gates of the first i lines, and then what the
+-- `plan::text::read_gates` meets its contract. The loop's invariant, `SoFar`: the whole is the gates of the lines read, and then what the
 -- lines left hold. Assumes nothing.
-use Rattle.std.proofs.Common.{sym, ◌∙◌, arith}
-use Rattle.plan.proofs.Texts.{none_yet, all_read, not_gate, one_more}
+use Rattle.std.proofs.Common.{arith}
+use Rattle.plan.proofs.Texts.{none_yet, all_read, line_long, not_gate, one_more}
 use Rattle.plan.proofs.text.read_gates.Goals as goal
 
-pub loop-i-init : goal.loop-i-init
-loop-i-init c = none_yet _ _ _ _ (omega arith)
+pub loop-line-init : goal.loop-line-init
+loop-line-init c = rw c.new-gates.ensures (none_yet _ _ _ c.requires.0)
 
-pub read_line-l-requires : goal.read_line-l-requires
-read_line-l-requires c = tt
+pub returns-in_err-read_gate-clause-some : goal.returns-in_err-read_gate-clause-some
+returns-in_err-read_gate-clause-some c =
+    rw c.from_residual.ensures (not_gate _ _ _ _ _ _ c.loop-line.invariant (omega arith) c.in_err-read_gate.ensures)
 
-pub is_gate-requires : goal.is_gate-requires
-is_gate-requires c = tt
+pub push-requires : goal.push-requires
+push-requires c = omega (arith, c.loop-line.invariant.held)
 
-pub returns-then-not-is_gate : goal.returns-then-not-is_gate
-returns-then-not-is_gate c =
-    not_gate _ _ _ c.loop-i.i _ c.loop-i.invariant (omega arith) _ c.read_line-l.ensures
-    (sym c.is_gate.ensures ∙ c.if-not-is_gate.true)
+pub slice_bounds-lines-count : goal.slice_bounds-lines-count
+slice_bounds-lines-count c = line_long _ _ _ _ _ _ c.loop-line.invariant (omega arith)
 
-pub loop-i-preserved : goal.loop-i-preserved
-loop-i-preserved c =
-    one_more _ _ _ c.loop-i.i _ c.loop-i.invariant (omega arith) _ c.read_line-l.ensures
-    (sym c.is_gate.ensures ∙ c.if-not-is_gate.false)
+pub slice_bounds-lines-start : goal.slice_bounds-lines-start
+slice_bounds-lines-start c = line_long _ _ _ _ _ _ c.loop-line.invariant (omega arith)
 
-pub returns : goal.returns
-returns c = all_read _ _ _ c.loop-i.i _ c.loop-i.invariant (omega arith)
+pub loop-line-preserved : goal.loop-line-preserved
+loop-line-preserved c =
+    rw c.push.ensures.items (one_more _ _ _ _ _ _ c.loop-line.invariant (omega arith) _ c.in_ok-read_gate.ensures)
+
+pub returns-clause-some : goal.returns-clause-some
+returns-clause-some c = (all_read _ _ _ _ _ _ c.loop-line.invariant (omega arith)).0
+
+pub returns-clause-gates : goal.returns-clause-gates
+returns-clause-gates c = (all_read _ _ _ _ _ _ c.loop-line.invariant (omega arith)).1

@@ -1,17 +1,19 @@
 -- `plan::text::read_line` meets its contract: the part that it reads is the text's first 19 bytes. Assumes nothing.
-use Rattle.std.proofs.Common.{◌≡◌, sym, ap, ◌∙◌, ℕ, ◌-◌, arith, take, take_all}
-use native.Mathlib.Nat.{sub-zero}
-use Rattle.plan.proofs.Texts.{is_line}
+use Rattle.std.proofs.Common.{◌∙◌, arith}
+use Rattle.plan.proofs.Texts.{first_bytes, row_most, line_none, line_some}
 use Rattle.plan.proofs.text.read_line.Goals as goal
-use Rattle.plan.proofs.text.read_line.Goals.{then-end-gt19, else-end-gt19}
 
-pub slice_bounds-read_row-end : goal.slice_bounds-read_row-end
-slice_bounds-read_row-end c = (elim c.if-end-gt19.branch [ then-end-gt19 w ↦ omega arith | else-end-gt19 w ↦ omega arith ])
+pub returns-in_err-x : goal.returns-in_err-x
+returns-in_err-x c = c.from_residual.ensures ∙ line_none _ _ (first_bytes _ _ (omega arith) (λ l. omega arith)) c.in_err-x.ensures
+
+pub overflow_cast-result : goal.overflow_cast-result
+overflow_cast-result c = omega (arith, row_most _ _ _ _ 0 c.in_ok-x.ensures)
+
+pub overflow_cast-result-2 : goal.overflow_cast-result-2
+overflow_cast-result-2 c = omega (arith, row_most _ _ _ _ 1 c.in_ok-x.ensures)
+
+pub overflow_cast-result-3 : goal.overflow_cast-result-3
+overflow_cast-result-3 c = omega (arith, row_most _ _ _ _ 2 c.in_ok-x.ensures)
 
 pub returns : goal.returns
-returns c =
-    let text = c.args.text.now in
-    let part : take (c.if-end-gt19.end - 0) text ≡ take 19 text =
-    rw sub-zero ((elim c.if-end-gt19.branch [ then-end-gt19 w ↦ ap (λ (n : ℕ). take n text) w.end-is | else-end-gt19 w ↦ take_all c.if-end-gt19.end text (omega arith) ∙ sym (take_all 19 text (omega arith)) ])) in
-    rw (c.narrow.ensures, c.narrow-2.ensures, c.narrow-3.ensures)
-    (is_line text _ _ c.read_row-whole.result part c.read_row-whole.ensures)
+returns c = line_some _ _ (first_bytes _ _ (omega arith) (λ l. omega arith)) _ c.in_ok-x.ensures

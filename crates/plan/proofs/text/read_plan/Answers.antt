@@ -1,35 +1,27 @@
--- `plan::text::read_plan` meets its contract, on each of its four ways out. Assumes nothing.
-use Rattle.std.proofs.Common.{sym, ◌∙◌}
-use borrow.Author.Tests.{not-true, not-false}
-use Rattle.plan.proofs.Texts.{HeadRead, not_head, not_long, gates_asked, not_gates, is_read}
+-- `plan::text::read_plan` meets its contract, on each of its ways out. Assumes nothing.
+use Rattle.plan.proofs.Texts.{plan_no_head, plan_not_long, gates_asked, plan_no_gates, plan_is_read}
 use Rattle.plan.proofs.text.read_plan.Goals as goal
-use Rattle.plan.proofs.text.read_plan.Goals.{Else-text-count}
 
-pub returns-then-not-is_head : goal.returns-then-not-is_head
-returns-then-not-is_head c =
-    rw c.refused.ensures
-    (not_head _ _ c.read_line-head.ensures (sym c.is_head.ensures ∙ c.if-not-is_head.true))
+pub returns-in_err-portions : goal.returns-in_err-portions
+returns-in_err-portions c = rw c.from_residual.ensures (record { some = plan_no_head _ c.in_err-portions.ensures; plan = tt })
 
 pub returns-then-text-count : goal.returns-then-text-count
-returns-then-text-count c = rw c.refused-then-text-count.ensures (not_long _ _ c.read_line-head.ensures c.if-text-count.true)
+returns-then-text-count c =
+    record { some = plan_not_long _ _ _ _ c.in_ok-portions.ensures c.from-count.ensures c.if-text-count.true; plan = tt }
 
--- past the two tests of line one
-head_read : (c : Else-text-count) → HeadRead c.args.text.now c.read_line-head.result
-head_read c =
-    record {
-      taken = c.read_line-head.ensures;
-      head = sym c.is_head.ensures ∙ c.if-not-is_head.false;
-      long = c.if-text-count.false;
-    }
+pub read_gates-requires : goal.read_gates-requires
+read_gates-requires c = gates_asked _ _ _ _ c.in_ok-portions.ensures c.from-count.ensures c.if-text-count.false
 
-pub read_gates-g-requires : goal.read_gates-g-requires
-read_gates-g-requires c = gates_asked _ _ (head_read (goal.at.read_gates-g-requires c).Else-text-count)
-
-pub returns-then-not-g : goal.returns-then-not-g
-returns-then-not-g c =
-    rw c.refused-then-not-g.ensures
-    (not_gates _ _ (head_read (goal.at.returns-then-not-g c).Else-text-count) _ c.read_gates-g.ensures (not-true _ c.if-not-g.true))
+pub returns-in_err-gates : goal.returns-in_err-gates
+returns-in_err-gates c =
+    rw c.from_residual-in_err-gates.ensures
+    (record {
+      some = plan_no_gates _ _ _ _ c.in_ok-portions.ensures c.from-count.ensures c.if-text-count.false c.in_err-gates.ensures.some;
+      plan = tt;
+    })
 
 pub returns : goal.returns
 returns c =
-    is_read _ _ (head_read (goal.at.returns c).Else-text-count) _ c.read_gates-g.ensures (not-false _ c.if-not-g.false)
+    let read = plan_is_read _ _ _ _ c.in_ok-portions.ensures c.from-count.ensures c.if-text-count.false _ c.in_ok-gates.ensures.some
+    c.in_ok-gates.ensures.gates in
+    record { some = read.0; plan = read.1 }
