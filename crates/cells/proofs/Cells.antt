@@ -6,11 +6,10 @@ use mathlib.Core.List.{List, [], ◌∷◌, ◌++◌, map, append_assoc, append-
 use Prim.Native.Nat.{ℕ, zero, suc, ◌+◌, ◌-◌, ◌/◌, ◌%◌, ◌≤◌, ◌<◌}
 use native.Mathlib.Omega.{arith}
 use native.Mathlib.Nat.{sub-zero}
-use native.Mathlib.Numerals.{add-one}
 use borrow.Author.Tests.{leb-true, le-leb, ltb-true, ltb-false, ne_eqb, lt-leb}
 use lib.Dec.{ltb, leb-suc-suc}
-use lib.ListN.{length, take, drop, set, get_or, replicate, length-append, length-replicate}
-use lib.Seq.{drop-cons, drop_at, take_at, set_split}
+use lib.ListN.{length, take, drop, set, replicate, length-append, length-replicate}
+use lib.Seq.{drop_at, take_at, set_split}
 use Rattle.lists.specs.Search.{any}
 use Rattle.lists.proofs.Search.{any_append}
 use Rattle.lists.proofs.Tests.{and_l, and_r}
@@ -161,14 +160,16 @@ minus_number w n e = le-leb (length (digits n)) w (omega (arith, leb-true (suc (
 pub minus_blank : (w n : ℕ) → cell_fits w (Minus n) ≡ true → 0 < blanks (column w n)
 unfolding cell_fits marks column
 minus_blank w n e =
-    let k : w - length (digits n) ≡ suc (w - suc (length (digits n))) = omega (arith, leb-true (suc (length (digits n))) w e) in
-    rw (k, blanks_front (suc (w - suc (length (digits n)))) n) (omega arith)
+    let j : ℕ = w - suc (length (digits n)) in
+    let k : w - length (digits n) ≡ suc j = omega (arith, leb-true (suc (length (digits n))) w e) in
+    rw (k, blanks_front (suc j) n) (omega arith)
 
 pub minus_within : (w n : ℕ) → cell_fits w (Minus n) ≡ true → blanks (column w n) - 1 < length (column w n)
 minus_within w n e = omega (arith, minus_blank w n e, blanks_le (column w n))
 
 -- and the sign goes into the last of them
-pub minus_set : (w n : ℕ) → cell_fits w (Minus n) ≡ true → set (column w n) (blanks (column w n) - 1) 45 ≡ cell w (Minus n)
+pub minus_set : (w n : ℕ) → cell_fits w (Minus n) ≡ true
+    → set (column w n) (blanks (column w n) - 1) 45 ≡ cell w (Minus n)
 unfolding cell_fits marks column cell
 minus_set w n e =
     let h : suc (length (digits n)) ≤ w = leb-true (suc (length (digits n))) w e in
@@ -183,22 +184,23 @@ pub ruleset minus_steps = (filled_column, minus_number, minus_blank, minus_withi
 
 -- ---- a line of cells, cell by cell
 
-module _ (k : ℕ) (ws : List ℕ) (cs : List Cell) (h : k < length ws) (l : k < length cs) where
-  -- the cell k fits, and so do those after it
-  pub cells_next : cells_fit (drop k ws) (drop k cs) ≡ true
-      → (cell_fits (get_or ws k 0) (get_or cs k Empty) ≡ true) × (cells_fit (drop (k + 1) ws) (drop (k + 1) cs) ≡ true)
-  unfolding cells_fit
-  cells_next e =
-      let both = rw (drop-cons ws k 0 h, drop-cons cs k Empty l) at e in
-      rw add-one (and_l (cell_fits (get_or ws k 0) (get_or cs k Empty)) _ both, and_r (cell_fits (get_or ws k 0) (get_or cs k Empty)) _ both)
+-- cells that fit are as many as the widths
+pub cells_lengths : (ws : List ℕ) (cs : List Cell) → cells_fit ws cs ≡ true → length ws ≡ length cs
+unfolding cells_fit
+cells_lengths [] [] e = refl
+cells_lengths [] (c ∷ cs) e = absurd (false≢true e)
+cells_lengths (w ∷ ws) [] e = absurd (false≢true e)
+cells_lengths (w ∷ ws) (c ∷ cs) e = ap suc (cells_lengths ws cs (and_r (cell_fits w c) (cells_fit ws cs) e))
 
-  -- the cell k put into t
-  pub cell_line_step : (at : ℕ) (t t' : List ℕ) → let w = get_or ws k 0 in let c = get_or cs k Empty in
-      at + w ≤ length t → cell_fits w c ≡ true → t' ≡ take at t ++ (cell w c ++ drop (at + w) t)
-      → take at t ++ cell_line (drop k ws) (drop k cs) ≡ take (at + w) t' ++ cell_line (drop (k + 1) ws) (drop (k + 1) cs)
+module _ (w : ℕ) (c : Cell) (ws : List ℕ) (cs : List Cell) where
+  -- the first cell fits, and so do those after it
+  pub cells_next : cells_fit (w ∷ ws) (c ∷ cs) ≡ true → (cell_fits w c ≡ true) × (cells_fit ws cs ≡ true)
+  unfolding cells_fit
+  cells_next e = (and_l (cell_fits w c) (cells_fit ws cs) e, and_r (cell_fits w c) (cells_fit ws cs) e)
+
+  -- the first cell put into t
+  pub cell_line_step : (at : ℕ) (t t' : List ℕ) → at + w ≤ length t → cell_fits w c ≡ true
+      → t' ≡ take at t ++ (cell w c ++ drop (at + w) t)
+      → take at t ++ cell_line (w ∷ ws) (c ∷ cs) ≡ take (at + w) t' ++ cell_line ws cs
   unfolding cell_line
-  cell_line_step at t t' r f p =
-      let w = get_or ws k 0 in
-      let c = get_or cs k Empty in
-      rw (add-one, drop-cons ws k 0 h, drop-cons cs k Empty l)
-      (part_done at w (cell w c) (cell_line (drop (suc k) ws) (drop (suc k) cs)) t t' r (cell-length w c f) p)
+  cell_line_step at t t' r f p = part_done at w (cell w c) (cell_line ws cs) t t' r (cell-length w c f) p

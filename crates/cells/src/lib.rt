@@ -1,4 +1,5 @@
-// A cell of a page: a number, a number behind a minus sign, or nothing, right-justified in fixed columns of a lent text; and a difference as a cell.
+// A cell of a page: a number, a number behind a minus sign, or nothing, right-justified in fixed columns of a lent text;
+// and a difference as a cell.
 #![tactic(auto)]
 
 ghost use Rattle.std.specs.Prelude.{◌≡◌, true, length, replicate};
@@ -40,7 +41,8 @@ fn is_cell_fitting(width: usize, c: Cell) -> bool
     }
 }
 
-// Fills the whole slice with a number behind a minus sign that fits: the number, and the sign in place of the last blank.
+// Fills the whole slice with a number behind a minus sign that fits: the number, and the sign in place of the last
+// blank.
 #[tactic(auto, using(crate::proofs::Cells::minus_steps))]
 fn fill_minus(t: &mut [u8], n: u32)
     requires { Cells.cell_fits (length t.old) (Cell.Minus n) ≡ true }

@@ -41,10 +41,13 @@ more held a = union held a.limits
 -- gathered over the authorities in force, from what those before them hold
 held_from : (xs ys : List Authority) → fold more (held_portions xs) (filter is_in_force ys) ≡ held_portions (xs ++ ys)
 held_from xs [] = rw append-nil
-held_from xs (a ∷ ys) = go (is_in_force a) refl (held_from (xs ++ (a ∷ [])) ys ∙ ap held_portions (append_assoc xs (a ∷ []) ys))
+held_from xs (a ∷ ys) =
+    go (is_in_force a) refl (held_from (xs ++ (a ∷ [])) ys ∙ ap held_portions (append_assoc xs (a ∷ []) ys))
   where
-    go : (t : Bool) → is_in_force a ≡ t → fold more (held_portions (xs ++ (a ∷ []))) (filter is_in_force ys) ≡ held_portions (xs ++ (a ∷ ys))
-        → fold more (held_portions xs) (cond t (a ∷ filter is_in_force ys) (filter is_in_force ys)) ≡ held_portions (xs ++ (a ∷ ys))
+    go : (t : Bool) → is_in_force a ≡ t
+        → fold more (held_portions (xs ++ (a ∷ []))) (filter is_in_force ys) ≡ held_portions (xs ++ (a ∷ ys))
+        → fold more (held_portions xs) (cond t (a ∷ filter is_in_force ys) (filter is_in_force ys))
+        ≡ held_portions (xs ++ (a ∷ ys))
     go true e ih = ap (λ (held : ℕ). fold more held (filter is_in_force ys)) (held_more xs a e) ∙ ih
     go false e ih = rw (held_same xs a e) ih
 

@@ -1,4 +1,5 @@
--- `rows::held_portions` meets its contract: the closures pick the authorities in force and add the limits of each. Assumes nothing.
+-- `rows::held_portions` meets its contract: the closures pick the authorities in force and add the limits of
+-- each. Assumes nothing.
 use Rattle.std.proofs.Common.{◌∙◌, rules, tests}
 use Rattle.std.proofs.lemmas.Iterator.{YieldsList-from_slice}
 use Rattle.std.proofs.lemmas.Iterator.Consumers.{YieldsList-from_filter, fold_from_yields_List}
