@@ -6,11 +6,10 @@ use mathlib.Core.List.{List, [], ◌∷◌, ◌++◌, map, append_assoc, append-
 use Prim.Native.Nat.{ℕ, zero, suc, ◌+◌, ◌-◌, ◌/◌, ◌%◌, ◌≤◌, ◌<◌}
 use native.Mathlib.Omega.{arith}
 use native.Mathlib.Nat.{sub-zero}
-use native.Mathlib.Numerals.{add-one}
 use borrow.Author.Tests.{leb-true, le-leb, ltb-true, ltb-false, ne_eqb, lt-leb}
 use lib.Dec.{ltb, leb-suc-suc}
-use lib.ListN.{length, take, drop, set, get_or, replicate, length-append, length-replicate, drop_of_length-le}
-use lib.Seq.{drop-cons, drop_at, take_at, set_split}
+use lib.ListN.{length, take, drop, set, replicate, length-append, length-replicate}
+use lib.Seq.{drop_at, take_at, set_split}
 use Rattle.lists.specs.Search.{any}
 use Rattle.lists.proofs.Search.{any_append}
 use Rattle.lists.proofs.Tests.{and_l, and_r}
@@ -18,12 +17,12 @@ use Rattle.columns.specs.Column.{digits, column, fits}
 use Rattle.columns.specs.Line.{line}
 use Rattle.reading.specs.Reading.{blanks, value_from}
 use Rattle.columns.proofs.Digits.{digits_one, digits_more}
-use Rattle.columns.proofs.Writing.{part_done, total}
+use Rattle.columns.proofs.Writing.{filled_column, part_done, total}
 use Rattle.reading.proofs.Scan.{by_tenths, starts, value_digits, blanks_front, blanks_le}
 use Rattle.reading.proofs.Texts.{value_blanks}
 use Rattle.cells.specs.declared.Cell.{Cell}
 use Rattle.cells.specs.declared.Cell.TheVariants.{Empty, Number, Minus}
-use Rattle.cells.specs.Cells.{difference, marks, cell, cell_fits, Filled, cell_line, cells_fit, is_printed, is_minus, cell_in}
+use Rattle.cells.specs.Cells.{difference, marks, cell, cell_fits, cell_line, cells_fit, is_printed, is_minus, cell_in}
 
 -- ---- how long a cell is, and which cells fit
 
@@ -58,6 +57,9 @@ sign_fits (suc w) n h = let e : suc w - 1 ≡ w = omega arith in rw e (sym (minu
 pub empty_fits : (w : ℕ) → cell_fits w Empty ≡ true
 unfolding cell_fits marks
 empty_fits w = le-leb 0 w (omega arith)
+
+-- which cells fit, and what is printed of them
+pub ruleset cell_kinds = (empty_fits, number_fits, minus_none, sign_fits, empty_cell, number_cell, filled_column)
 
 -- a cell that fits takes its columns, no more and no fewer
 pub cell-length : (w : ℕ) (c : Cell) → cell_fits w c ≡ true → length (cell w c) ≡ w
@@ -149,69 +151,56 @@ one_more : (i : ℕ) (s : List ℕ) → replicate i 32 ++ (32 ∷ s) ≡ replica
 one_more zero s = refl
 one_more (suc i) s = ap (λ (l : List ℕ). 32 ∷ l) (one_more i s)
 
--- a blank stored behind i blanks
-pub blank_step : (t : List ℕ) (i : ℕ) → i < length t → set (replicate i 32 ++ drop i t) i 32 ≡ replicate (i + 1) 32 ++ drop (i + 1) t
-blank_step t i h =
-    rw (add-one, drop-cons t i 0 h)
-    (set_behind (replicate i 32) (drop (suc i) t) i (get_or t i 0) 32 (length-replicate i 32) ∙ one_more i (drop (suc i) t))
-
--- every byte a blank
-pub blank_end : (t : List ℕ) (i : ℕ) → i ≡ length t → replicate i 32 ++ drop i t ≡ replicate (length t) 32
-blank_end t i e = rw (drop_of_length-le t {i = i} (omega arith), append-nil, e)
-
 -- a number that fits behind a minus sign fits
 pub minus_number : (w n : ℕ) → cell_fits w (Minus n) ≡ true → fits w n ≡ true
 unfolding cell_fits marks fits
 minus_number w n e = le-leb (length (digits n)) w (omega (arith, leb-true (suc (length (digits n))) w e))
 
-minus_step : (w n : ℕ) → cell_fits w (Minus n) ≡ true
-    → (0 < blanks (column w n)) × (set (column w n) (blanks (column w n) - 1) 45 ≡ cell w (Minus n))
+-- its column has a blank before it
+pub minus_blank : (w n : ℕ) → cell_fits w (Minus n) ≡ true → 0 < blanks (column w n)
+unfolding cell_fits marks column
+minus_blank w n e =
+    let j : ℕ = w - suc (length (digits n)) in
+    let k : w - length (digits n) ≡ suc j = omega (arith, leb-true (suc (length (digits n))) w e) in
+    rw (k, blanks_front (suc j) n) (omega arith)
+
+pub minus_within : (w n : ℕ) → cell_fits w (Minus n) ≡ true → blanks (column w n) - 1 < length (column w n)
+minus_within w n e = omega (arith, minus_blank w n e, blanks_le (column w n))
+
+-- and the sign goes into the last of them
+pub minus_set : (w n : ℕ) → cell_fits w (Minus n) ≡ true
+    → set (column w n) (blanks (column w n) - 1) 45 ≡ cell w (Minus n)
 unfolding cell_fits marks column cell
-minus_step w n e =
+minus_set w n e =
     let h : suc (length (digits n)) ≤ w = leb-true (suc (length (digits n))) w e in
     let j : ℕ = w - suc (length (digits n)) in
     let k : w - length (digits n) ≡ suc j = omega arith in
     let l : suc j - 1 ≡ j = omega arith in
-    rw (k, blanks_front (suc j) n, l)
-    (omega arith, rw (← one_more j (digits n)) (set_behind (replicate j 32) (digits n) j 32 45 (length-replicate j 32)))
+    rw (k, blanks_front (suc j) n, l, ← one_more j (digits n))
+    (set_behind (replicate j 32) (digits n) j 32 45 (length-replicate j 32))
 
--- its column t has a blank before it, and the sign goes into the last of the k blanks
-pub sign_step : (t : List ℕ) (k w n : ℕ) → t ≡ column w n → k ≡ blanks t → cell_fits w (Minus n) ≡ true
-    → (1 ≤ k) × (k - 1 < length t) × (set t (k - 1) 45 ≡ cell w (Minus n))
-sign_step t k w n e b f =
-    let s = minus_step w n f in
-    let m : k ≡ blanks (column w n) = b ∙ ap blanks e in
-    (omega (arith, s.0), omega (arith, s.0, blanks_le t), rw (e, m) s.1)
-
--- ---- what is left of a lent text
-
--- a cell that does not fit
-pub unfilled : (t : List ℕ) (c : Cell) (fit : Bool) → fit ≡ cell_fits (length t) c → fit ≡ false → Filled t c t false
-unfilled t c fit e f = let z : cell_fits (length t) c ≡ false = sym e ∙ f in record { answered = sym z; bytes = rw z }
-
--- one that does
-pub filled : (t : List ℕ) (c : Cell) (fit : Bool) (after : List ℕ) → fit ≡ cell_fits (length t) c → fit ≡ true → after ≡ cell (length t) c
-    → Filled t c after true
-filled t c fit after e f p = let z : cell_fits (length t) c ≡ true = sym e ∙ f in record { answered = sym z; bytes = rw z p }
+-- what the proof of `fill_minus` stands on
+pub ruleset minus_steps = (filled_column, minus_number, minus_blank, minus_within, minus_set)
 
 -- ---- a line of cells, cell by cell
 
-module _ (k : ℕ) (ws : List ℕ) (cs : List Cell) (h : k < length ws) (l : k < length cs) where
-  -- the cell k fits, and so do those after it
-  pub cells_next : cells_fit (drop k ws) (drop k cs) ≡ true
-      → (cell_fits (get_or ws k 0) (get_or cs k Empty) ≡ true) × (cells_fit (drop (k + 1) ws) (drop (k + 1) cs) ≡ true)
-  unfolding cells_fit
-  cells_next e =
-      let both = rw (drop-cons ws k 0 h, drop-cons cs k Empty l) at e in
-      rw add-one (and_l (cell_fits (get_or ws k 0) (get_or cs k Empty)) _ both, and_r (cell_fits (get_or ws k 0) (get_or cs k Empty)) _ both)
+-- cells that fit are as many as the widths
+pub cells_lengths : (ws : List ℕ) (cs : List Cell) → cells_fit ws cs ≡ true → length ws ≡ length cs
+unfolding cells_fit
+cells_lengths [] [] e = refl
+cells_lengths [] (c ∷ cs) e = absurd (false≢true e)
+cells_lengths (w ∷ ws) [] e = absurd (false≢true e)
+cells_lengths (w ∷ ws) (c ∷ cs) e = ap suc (cells_lengths ws cs (and_r (cell_fits w c) (cells_fit ws cs) e))
 
-  -- the cell k put into t
-  pub cell_line_step : (at : ℕ) (t t' : List ℕ) → let w = get_or ws k 0 in let c = get_or cs k Empty in
-      at + w ≤ length t → cell_fits w c ≡ true → t' ≡ take at t ++ (cell w c ++ drop (at + w) t)
-      → take at t ++ cell_line (drop k ws) (drop k cs) ≡ take (at + w) t' ++ cell_line (drop (k + 1) ws) (drop (k + 1) cs)
+module _ (w : ℕ) (c : Cell) (ws : List ℕ) (cs : List Cell) where
+  -- the first cell fits, and so do those after it
+  pub cells_next : cells_fit (w ∷ ws) (c ∷ cs) ≡ true → (cell_fits w c ≡ true) × (cells_fit ws cs ≡ true)
+  unfolding cells_fit
+  cells_next e = (and_l (cell_fits w c) (cells_fit ws cs) e, and_r (cell_fits w c) (cells_fit ws cs) e)
+
+  -- the first cell put into t
+  pub cell_line_step : (at : ℕ) (t t' : List ℕ) → at + w ≤ length t → cell_fits w c ≡ true
+      → t' ≡ take at t ++ (cell w c ++ drop (at + w) t)
+      → take at t ++ cell_line (w ∷ ws) (c ∷ cs) ≡ take (at + w) t' ++ cell_line ws cs
   unfolding cell_line
-  cell_line_step at t t' r f p =
-      let w = get_or ws k 0 in
-      let c = get_or cs k Empty in
-      rw (add-one, drop-cons ws k 0 h, drop-cons cs k Empty l)
-      (part_done at w (cell w c) (cell_line (drop (suc k) ws) (drop (suc k) cs)) t t' r (cell-length w c f) p)
+  cell_line_step at t t' r f p = part_done at w (cell w c) (cell_line ws cs) t t' r (cell-length w c f) p

@@ -1,7 +1,6 @@
 -- Worked examples, computed: cells of a page byte for byte, one that does not fit, and one read back. Assumes nothing.
 use mathlib.Core.Path.{◌≡◌, refl}
 use mathlib.Core.Bool.{false}
-use Rattle.lists.specs.Search.{any}
 use Rattle.columns.specs.Text.{bytes}
 use Rattle.columns.specs.Column.{digits_in, digits}
 use Rattle.reading.specs.Reading.{value_from}

@@ -1,19 +1,18 @@
 -- The steps of the code that writes: its table, a column filled from its last byte on, a line counted and then filled number by number.
 -- Only the proofs of `src/write.rt` cite these. Assumes nothing.
-use mathlib.Core.Path.{◌≡◌, sym, ◌∙◌}
+use mathlib.Core.Path.{◌≡◌, refl, sym, ap, ◌∙◌}
 use mathlib.Core.Logic.{inl, inr}
 use mathlib.Core.Bool.{true, false, cond, ◌&&◌}
-use mathlib.Core.List.{List, [], ◌∷◌, ◌++◌, append_assoc}
+use mathlib.Core.List.{List, [], ◌∷◌, ◌++◌, append_assoc, append-nil}
 use Prim.Native.Nat.{ℕ, zero, suc, ◌+◌, ◌*◌, ◌/◌, ◌%◌, ◌^◌, ◌≤◌, ◌<◌}
 use native.Mathlib.Omega.{arith}
 use native.Mathlib.Nat.{zero-add, pow-suc, pow-succ'}
-use native.Mathlib.Numerals.{add-one}
 use borrow.Author.Tests.{lt-ltb, le-ltb, ltb-true, leb-true, le-leb, lt-leb}
 use lib.Dec.{ltb, leb}
 use lib.ListN.{length, take, drop, set, get_or, drop_of_length-le}
-use lib.Seq.{drop-cons, drop_at, length-take-le, set_split}
+use lib.Seq.{drop_at, length-take-le, set_split}
 use Rattle.lists.proofs.Tests.{truth, same_test, and_l, and_r}
-use Rattle.columns.specs.Column.{digits, column, fits, ColumnFilled}
+use Rattle.columns.specs.Column.{digits, column, fits}
 use Rattle.columns.specs.Line.{line, all_fit, writable, with_line, Written}
 use Rattle.columns.specs.Steps.{mark}
 use Rattle.columns.proofs.Writing.{count_some, fits_below, below_fits, column-length, part_done, front, column-front, total, line-length, writable_known}
@@ -44,17 +43,14 @@ fits_table k (suc w) n h =
 drop-set : (t : List ℕ) (i v : ℕ) → i < length t → drop i (set t i v) ≡ v ∷ drop (suc i) t
 drop-set t i v h = rw (set_split t i v h) (drop_at (take i t) (v ∷ drop (suc i) t) i (length-take-le i t (omega arith)))
 
--- no number fits a column of no byte
-pub fits_none : {A : Type 0} (w n : ℕ) → fits w n ≡ true → w ≡ 0 → A
+-- a text of no byte takes no number
+pub none_filled : (t : List ℕ) (n : ℕ) → fits (length t) n ≡ true → length t ≡ 0 → t ≡ column (length t) n
 unfolding fits
-fits_none w n e z = absurd (omega (arith, count_some n, leb-true (length (digits n)) w e))
+none_filled t n f z = absurd (omega (arith, count_some n, leb-true (length (digits n)) (length t) f))
 
--- the last byte stored
-pub last_step : (t : List ℕ) (i n : ℕ) → suc i ≡ length t → fits (length t) n ≡ true
-    → column (length t) n ≡ front i (n / 10) ++ drop i (set t i (48 + n % 10))
-last_step t i n e f =
-    let l : length t ≤ suc i = omega arith in
-    rw (← e, drop-set t i (48 + n % 10) (omega arith), drop_of_length-le t l) (column-front i n (rw e f))
+-- before any byte is stored
+pub front_start : (t : List ℕ) (n : ℕ) → front (length t) n ≡ front (length t) n ++ drop (length t) t
+front_start t n = rw (drop_of_length-le t {i = length t} (omega arith), append-nil)
 
 -- a byte stored before byte j
 pub front_step : (t : List ℕ) (i j n v : ℕ) → j ≤ length t → suc i ≡ j → v ≡ mark n
@@ -68,13 +64,15 @@ pub front_done : (t : List ℕ) (i n : ℕ) → i ≡ 0 → front i n ++ drop i 
 unfolding front
 front_done t i n e = rw e
 
--- what is left of a text that the number does not fit
-pub unfilled : (t : List ℕ) (n : ℕ) → fits (length t) n ≡ false → ColumnFilled t n t false
-unfilled t n e = record { answered = sym e; bytes = rw e }
+-- and the last one: the bytes before it are the front of the number's tenth
+pub all_filled : (w n : ℕ) (before : List ℕ) → length before + 1 ≡ w → fits w n ≡ true → front (length before) (n / 10) ≡ before
+    → before ++ ((48 + n % 10) ∷ []) ≡ column w n
+all_filled w n before e f b =
+    let l : suc (length before) ≡ w = omega arith in
+    rw (← l) (sym (column-front (length before) n (rw l f) ∙ ap (λ (s : List ℕ). s ++ ((48 + n % 10) ∷ [])) b))
 
--- and of one that it fits
-pub filled : (t : List ℕ) (n : ℕ) (after : List ℕ) → fits (length t) n ≡ true → after ≡ column (length t) n → ColumnFilled t n after true
-filled t n after e p = record { answered = sym e; bytes = rw e p }
+-- what the proof of `fill` stands on
+pub ruleset filling = (none_filled, front_start, front_step, front_done, all_filled)
 
 -- ---- a line
 -- the length of a line and of s bytes before it, 0 where they cannot be written
@@ -90,63 +88,48 @@ pub size_none : (room s : ℕ) (ws ns : List ℕ) → (all_fit ws ns ≡ true �
 unfolding size_from
 size_none room s ws ns h = elim (truth (all_fit ws ns)) [ inl e ↦ rw (e, lt-leb (total ws + s) room (h e)) | inr e ↦ rw e ]
 
--- what is known of a line whose numbers fit from number k on
-pub record Next (k : ℕ) (ws ns : List ℕ) : Type 0 where
-  pub columns : total (drop k ws) ≡ get_or ws k 0 + total (drop (k + 1) ws)
-  pub fit : fits (get_or ws k 0) (get_or ns k 0) ≡ true
-  pub rest : all_fit (drop (k + 1) ws) (drop (k + 1) ns) ≡ true
+-- one number more, counted where it fits
+pub size_step : (room s w n : ℕ) (ws ns : List ℕ) → fits w n ≡ true → size_from room s (w ∷ ws) (n ∷ ns) ≡ size_from room (s + w) ws ns
+unfolding size_from all_fit total
+size_step room s w n ws ns f = let e : w + total ws + s ≡ total ws + (s + w) = omega arith in rw (f, e)
 
-module _ (k : ℕ) (ws ns : List ℕ) (h : k < length ws) (l : k < length ns) where
-  pub total_at : total (drop k ws) ≡ get_or ws k 0 + total (drop (k + 1) ws)
-  unfolding total
-  total_at = rw (add-one, drop-cons ws k 0 h)
+pub size_unfit : (room s w n : ℕ) (ws ns : List ℕ) → fits w n ≡ false → size_from room s (w ∷ ws) (n ∷ ns) ≡ 0
+unfolding size_from all_fit
+size_unfit room s w n ws ns f = rw f
 
-  fit_at : all_fit (drop k ws) (drop k ns) ≡ fits (get_or ws k 0) (get_or ns k 0) && all_fit (drop (k + 1) ws) (drop (k + 1) ns)
-  unfolding all_fit
-  fit_at = rw (add-one, drop-cons ws k 0 h, drop-cons ns k 0 l)
-
-  pub next_at : all_fit (drop k ws) (drop k ns) ≡ true → Next k ws ns
-  next_at e =
-      let a = fits (get_or ws k 0) (get_or ns k 0) in
-      let b = all_fit (drop (k + 1) ws) (drop (k + 1) ns) in
-      let both : a && b ≡ true = sym fit_at ∙ e in
-      record { columns = total_at; fit = and_l a b both; rest = and_r a b both }
-
-  -- the number k counted
-  pub size_step : (room s : ℕ) → fits (get_or ws k 0) (get_or ns k 0) ≡ true
-      → size_from room s (drop k ws) (drop k ns) ≡ size_from room (s + get_or ws k 0) (drop (k + 1) ws) (drop (k + 1) ns)
-  unfolding size_from
-  size_step room s f =
-      let e : get_or ws k 0 + total (drop (k + 1) ws) + s ≡ total (drop (k + 1) ws) + (s + get_or ws k 0) = omega arith in
-      rw (fit_at, f, total_at, e)
-
-  pub size_unfit : (room s : ℕ) → fits (get_or ws k 0) (get_or ns k 0) ≡ false → size_from room s (drop k ws) (drop k ns) ≡ 0
-  unfolding size_from
-  size_unfit room s f = rw (fit_at, f)
-
-  -- the number k put into t
-  pub line_step : (at : ℕ) (t t' : List ℕ) → let w = get_or ws k 0 in let n = get_or ns k 0 in
-      at + w ≤ length t → fits w n ≡ true → t' ≡ take at t ++ (column w n ++ drop (at + w) t)
-      → take at t ++ line (drop k ws) (drop k ns) ≡ take (at + w) t' ++ line (drop (k + 1) ws) (drop (k + 1) ns)
-  unfolding line
-  line_step at t t' r f p =
-      let w = get_or ws k 0 in
-      rw (add-one, drop-cons ws k 0 h, drop-cons ns k 0 l)
-      (part_done at w (column w (get_or ns k 0)) (line (drop (suc k) ws) (drop (suc k) ns)) t t' r (column-length w (get_or ns k 0) f) p)
+pub size_full : (room s w n : ℕ) (ws ns : List ℕ) → room < s + w → size_from room s (w ∷ ws) (n ∷ ns) ≡ 0
+unfolding total
+size_full room s w n ws ns h = size_none room s (w ∷ ws) (n ∷ ns) (λ e. omega arith)
 
 -- every number counted
-pub size_end : (room s k : ℕ) (ws ns : List ℕ) → length ws ≤ k → length ns ≤ k → s ≤ room → size_from room s (drop k ws) (drop k ns) ≡ s
+pub size_end : (room s : ℕ) (ws ns : List ℕ) → ws ≡ [] → ns ≡ [] → s ≤ room → size_from room s ws ns ≡ s
 unfolding size_from all_fit total
-size_end room s k ws ns h l r = rw (drop_of_length-le ws h, drop_of_length-le ns l, zero-add s, le-leb s room r)
+size_end room s ws ns e f r = rw (e, f, zero-add s, le-leb s room r)
+
+-- a line whose numbers fit: its first column, and the numbers behind it
+pub record Next (w n : ℕ) (ws ns : List ℕ) : Type 0 where
+  pub columns : total (w ∷ ws) ≡ w + total ws
+  pub fit : fits w n ≡ true
+  pub rest : all_fit ws ns ≡ true
+
+pub next_of : (w n : ℕ) (ws ns : List ℕ) → all_fit (w ∷ ws) (n ∷ ns) ≡ true → Next w n ws ns
+unfolding all_fit total
+next_of w n ws ns e = record { columns = refl; fit = and_l (fits w n) (all_fit ws ns) e; rest = and_r (fits w n) (all_fit ws ns) e }
+
+-- the number put into t
+pub line_step : (at w n : ℕ) (ws ns t t' : List ℕ) → at + w ≤ length t → fits w n ≡ true
+    → t' ≡ take at t ++ (column w n ++ drop (at + w) t)
+    → take at t ++ line (w ∷ ws) (n ∷ ns) ≡ take (at + w) t' ++ line ws ns
+unfolding line
+line_step at w n ws ns t t' r f p = part_done at w (column w n) (line ws ns) t t' r (column-length w n f) p
 
 -- every number put into t: the line feed
-pub line_end : (at k : ℕ) (t ws ns : List ℕ) → length ws ≤ k → length t ≡ at + (total (drop k ws) + 1)
-    → set t at 10 ≡ take at t ++ line (drop k ws) (drop k ns)
+pub line_end : (at : ℕ) (t ws ns : List ℕ) → ws ≡ [] → length t ≡ at + (total ws + 1) → set t at 10 ≡ take at t ++ line ws ns
 unfolding line total
-line_end at k t ws ns h e =
-    let n : length t ≡ at + 1 = rw (drop_of_length-le ws h) at e in
+line_end at t ws ns w e =
+    let n : length t ≡ at + 1 = rw w at e in
     let l : length t ≤ suc at = omega arith in
-    set_split t at 10 (omega arith) ∙ rw (drop_of_length-le ws h, drop_of_length-le t l)
+    set_split t at 10 (omega arith) ∙ rw (w, drop_of_length-le t l)
 
 -- ---- what the length that was counted tells: 0 that the line cannot be written, any other that it can
 pub size_zero : (size : ℕ) (ws ns buffer : List ℕ) → size ≡ cond (writable (length buffer) ws ns) (length (line ws ns)) 0 → size ≡ 0

@@ -22,10 +22,9 @@ const TOO_WIDE: [u32; 10] = [
 pub fn is_fitting(width: usize, n: u32) -> bool
     ensures { result ≡ fits width n }
 {
-    if width < 10 {
-        n < TOO_WIDE[width]
-    } else {
-        true
+    match TOO_WIDE.get(width) {
+        Some(least) => n < *least,
+        None => true,
     }
 }
 
@@ -34,27 +33,25 @@ fn mark_of(rest: u32) -> u8
     ensures { result ≡ mark rest }
 {
     if rest == 0 {
-        32
+        b' '
     } else {
-        48 + (rest % 10) as u8
+        b'0' + (rest % 10) as u8
     }
 }
 
 // Fills the whole slice with a number that fits.
+#[tactic(auto, using(crate::proofs::Filling::filling))]
 fn fill(t: &mut [u8], n: u32)
     requires { fits (length t.old) n ≡ true }
     ensures { t.new ≡ column (length t.old) n }
 {
-    let w = t.len();
-    if w == 0 {
+    let Some((last, before)) = t.split_last_mut() else {
         return;
-    }
-    let mut i = w - 1;
-    t[i] = 48 + (n % 10) as u8;
+    };
+    *last = b'0' + (n % 10) as u8;
     let mut rest = n / 10;
-    while i > 0 {
-        i -= 1;
-        t[i] = mark_of(rest);
+    for i in (0..before.len()).rev() {
+        before[i] = mark_of(rest);
         rest /= 10;
     }
 }
@@ -89,17 +86,15 @@ fn line_size(widths: &[u8], numbers: &[u32], room: usize) -> usize
         return 0;
     }
     let mut size = 1;
-    let mut k = 0;
-    while k < widths.len() {
-        let w = widths[k] as usize;
-        if !is_fitting(w, numbers[k]) {
+    for (width, number) in widths.iter().zip(numbers) {
+        let width = *width as usize;
+        if !is_fitting(width, *number) {
             return 0;
         }
-        if room - size < w {
+        if room - size < width {
             return 0;
         }
-        size += w;
-        k += 1;
+        size += width;
     }
     size
 }
@@ -110,14 +105,12 @@ fn fill_line(t: &mut [u8], widths: &[u8], numbers: &[u32])
     ensures { t.new ≡ line widths.now numbers.now }
 {
     let mut at = 0;
-    let mut k = 0;
-    while k < numbers.len() {
-        let w = widths[k] as usize;
-        put(t, at, w, numbers[k]);
-        at += w;
-        k += 1;
+    for (width, number) in widths.iter().zip(numbers) {
+        let width = *width as usize;
+        put(t, at, width, *number);
+        at += width;
     }
-    t[at] = 10;
+    t[at] = b'\n';
 }
 
 // Writes the numbers, each in columns of its width, and a line feed to the front of the buffer; later bytes stay.
@@ -130,6 +123,6 @@ pub fn write_line(buf: &mut [u8], widths: &[u8], numbers: &[u32]) -> bool
     if size == 0 {
         return false;
     }
-    fill_line(&mut buf[0..size], widths, numbers);
+    fill_line(&mut buf[..size], widths, numbers);
     true
 }

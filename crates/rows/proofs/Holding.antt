@@ -1,10 +1,10 @@
 -- The portions held, authority by authority. Assumes nothing.
-use mathlib.Core.Path.{◌≡◌, ap, ◌∙◌}
-use mathlib.Core.Bool.{Bool, true, false, ◌||◌, or-false}
-use mathlib.Core.List.{List, [], ◌∷◌, ◌++◌}
+use mathlib.Core.Path.{◌≡◌, refl, ap, ◌∙◌}
+use mathlib.Core.Bool.{Bool, true, false, cond, ◌||◌, or-false}
+use mathlib.Core.List.{List, [], ◌∷◌, ◌++◌, append_assoc, append-nil}
 use Prim.Native.Nat.{ℕ}
 use lib.Pow.{pow_pos}
-use Rattle.lists.specs.Search.{any}
+use Rattle.std.specs.List.{filter, fold}
 use Rattle.lists.proofs.Search.{any_append}
 use Rattle.portions.specs.Sets.{set_of, in_either, union}
 use Rattle.portions.proofs.Bits.{has_none}
@@ -33,3 +33,23 @@ module _ (xs : List Authority) (a : Authority) where
   pub held_same : is_in_force a ≡ false → held_portions xs ≡ held_portions (xs ++ (a ∷ []))
   unfolding held_portions
   held_same e = set_of_agree 64 (is_held xs) (is_held (xs ++ (a ∷ []))) (λ p l. rw (held_one p, e, or-false))
+
+-- what is held with one authority more, if it is in force
+abbrev pub more : ℕ → Authority → ℕ
+more held a = union held a.limits
+
+-- gathered over the authorities in force, from what those before them hold
+held_from : (xs ys : List Authority) → fold more (held_portions xs) (filter is_in_force ys) ≡ held_portions (xs ++ ys)
+held_from xs [] = rw append-nil
+held_from xs (a ∷ ys) =
+    go (is_in_force a) refl (held_from (xs ++ (a ∷ [])) ys ∙ ap held_portions (append_assoc xs (a ∷ []) ys))
+  where
+    go : (t : Bool) → is_in_force a ≡ t
+        → fold more (held_portions (xs ++ (a ∷ []))) (filter is_in_force ys) ≡ held_portions (xs ++ (a ∷ ys))
+        → fold more (held_portions xs) (cond t (a ∷ filter is_in_force ys) (filter is_in_force ys))
+        ≡ held_portions (xs ++ (a ∷ ys))
+    go true e ih = ap (λ (held : ℕ). fold more held (filter is_in_force ys)) (held_more xs a e) ∙ ih
+    go false e ih = rw (held_same xs a e) ih
+
+pub held_gathered : (xs : List Authority) → fold more 0 (filter is_in_force xs) ≡ held_portions xs
+held_gathered xs = rw held_none (held_from [] xs)

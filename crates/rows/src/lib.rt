@@ -4,13 +4,13 @@
 ghost use Rattle.std.specs.Prelude.{◌*◌, ◌^◌, ◌<◌, ◌≡◌, true};
 ghost use Rattle.cells.specs.Cells.{cell_fits, cells_fit};
 ghost use Rattle.rules.specs.Board.{kind_no, board_of};
-ghost use Rattle.rules.specs.Step.{Bounds};
-ghost use Rattle.rules.specs.Sheet.{stage_no, site_no, minutes_in_hand, authority_cells, authority_widths, held_portions, total_cells, total_widths};
-ghost use Rattle.lists.specs.Prefix.{prefix};
+ghost use Rattle.rules.specs.Sheet.{stage_no, site_no, minutes_in_hand, authority_cells, authority_widths};
+ghost use Rattle.rules.specs.Sheet.{held_portions, total_cells, total_widths};
 
 use cells::{Cell, difference};
 use rules::{Authority, Kind, Register};
 
+// 1 LPA, 2 TOA, 3 TWA.
 fn kind_no(kind: Kind) -> u32
     ensures { result ≡ kind_no kind }
 {
@@ -66,30 +66,22 @@ pub fn authority_cells(a: Authority, now: u32) -> [Cell; 9]
 }
 
 // The portions that an authority in force has in its limits.
-fn held_portions(r: Register) -> u64
-    requires { Bounds r }
-    ensures { result ≡ held_portions (prefix r.live r.authorities) }
+fn held_portions(authorities: &[Authority]) -> u64
+    ensures { result ≡ held_portions authorities.now }
 {
-    let mut held: u64 = 0;
-    let mut i: usize = 0;
-    while i < r.live {
-        let a = r.authorities[i];
-        if a.in_force {
-            held = portions::union(held, a.limits);
-        }
-        i += 1;
-    }
-    held
+    authorities
+        .iter()
+        .filter(|a| a.in_force)
+        .fold(0, |held, a| portions::union(held, a.limits))
 }
 
 // The last line: the portions held and the gates blocked, and blanks.
-pub fn total_cells(r: Register) -> [Cell; 3]
-    requires { Bounds r }
-    ensures { (result ≡ total_cells (board_of r)) × (cells_fit total_widths result ≡ true) }
+pub fn total_cells(register: &Register) -> [Cell; 3]
+    ensures { (result ≡ total_cells (board_of register.now)) × (cells_fit total_widths result ≡ true) }
 {
     [
-        Cell::Number(portions::size(held_portions(r))),
-        Cell::Number(portions::size(r.blocks)),
+        Cell::Number(portions::size(held_portions(&register.authorities))),
+        Cell::Number(portions::size(register.blocks)),
         Cell::Empty,
     ]
 }

@@ -24,7 +24,7 @@ use Rattle.sheet.proofs.page.write_sheet.Kinds as kinds
 use Rattle.sheet.proofs.page.write_sheet.Reads as reads
 
 -- THEOREM: after any run the `requires` of `write_sheet` holds
-pub sheet_asked : {text : List ℕ} {ms : List Made} {cs : List Answered} (κs : Lfts 1) (a : Dens κs kinds.ps) → Ran text ms cs a.0 → reads.Pre κs a
+pub sheet_asked : {text : List ℕ} {ms : List Made} {cs : List Answered} (κs : Lfts 2) (a : Dens κs kinds.ps) → Ran text ms cs a.0.now → reads.Pre κs a
 sheet_asked κs a h = ran_kept h
 
 -- THEOREM: first and last, and the kind, of each live authority are those of its REQUEST, read off the calls of the run and their answers
@@ -53,7 +53,7 @@ ran_agreement_shown h o m = ap Number (ran_agreements h o m).number
 
 -- ---- what `write_sheet` leaves, of any register and buffer
 
-module _ (κs : Lfts 1) (a : Dens κs kinds.ps) (out : Written) (x : AtExit (ended_of 1 kinds.ps kinds.r) κs) (p : reads.Post κs a out x) where
+module _ (κs : Lfts 2) (a : Dens κs kinds.ps) (out : Written) (x : AtExit (ended_of 2 kinds.ps kinds.r) κs) (p : reads.Post κs a out x) where
   abbrev buffer : List ℕ
   buffer = a.1.0.now
 
@@ -67,7 +67,7 @@ module _ (κs : Lfts 1) (a : Dens κs kinds.ps) (out : Written) (x : AtExit (end
       (p.answered ∙ rw e, p.counted ∙ rw e, p.bytes ∙ rw e)
 
   -- THEOREM: after any run a buffer that is long enough has the sheet of the board that the rules give after its calls, and later bytes stay
-  pub ran_sheet : {text : List ℕ} {ms : List Made} {cs : List Answered} → Ran text ms cs a.0 → 2409 ≤ length buffer
+  pub ran_sheet : {text : List ℕ} {ms : List Made} {cs : List Answered} → Ran text ms cs a.0.now → 2409 ≤ length buffer
       → let b = final (open_board text) ms in
       (out.answer ≡ 0) × (out.lines ≡ length (sheet_lines b)) × (buffer' ≡ sheet b ++ drop (length (sheet b)) buffer)
   ran_sheet h l =

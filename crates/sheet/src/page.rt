@@ -1,10 +1,9 @@
 // The page: a line for each live authority in the register's order, and the last line, in a lent buffer.
-ghost use Rattle.std.specs.Prelude.{◌*◌, ◌^◌, ◌≤◌, ◌<◌, ◌≡◌, true, ◌++◌, map, length, drop};
-ghost use Rattle.lists.specs.Prefix.{prefix};
+ghost use Rattle.std.specs.Prelude.{◌*◌, ◌≤◌, ◌≡◌, true, ◌++◌, map, length, drop};
 ghost use Rattle.cells.specs.Cells.{cell_line, cells_fit};
 ghost use Rattle.rules.specs.Call.{minute_of};
 ghost use Rattle.rules.specs.Step.{Kept};
-ghost use Rattle.rules.specs.Sheet.{authority_widths, authority_line, total_widths, page_of, SheetPost};
+ghost use Rattle.rules.specs.Sheet.{authority_line, page_of, SheetPost};
 
 use cells::Cell;
 use rows::{authority_cells, total_cells};
@@ -18,76 +17,68 @@ pub struct Written {
     pub lines: usize,
 }
 
+// A line has 72 columns and a line feed; a page has 33 lines at most.
+const LINE_SIZE: usize = 73;
+
+const PAGE_SIZE: usize = 33 * LINE_SIZE;
+
 // The columns of an authority's line: kind has 7, minutes in hand 9, the others 8.
 const WIDTHS: [usize; 9] = [8, 7, 8, 8, 8, 8, 8, 9, 8];
 
-// Fills the whole slice with an authority's line, whose cells fit.
-fn fill_authority(line: &mut [u8], cells: [Cell; 9])
-    requires { (length line.old ≡ 73) × (cells_fit authority_widths cells ≡ true) }
-    ensures { line.new ≡ cell_line authority_widths cells }
+// The columns of the last line: two of 9, and blanks.
+const TOTAL_WIDTHS: [usize; 3] = [9, 9, 54];
+
+// Fills the whole slice with a line of cells that fit their columns.
+fn fill_cells<const N: usize>(line: &mut [u8], widths: &[usize; N], cells: &[Cell; N])
+    requires { (length line.old ≡ length (cell_line widths.now cells.now)) × (cells_fit widths.now cells.now ≡ true) }
+    ensures { line.new ≡ cell_line widths.now cells.now }
 {
-    let mut at: usize = 0;
-    let mut k: usize = 0;
-    while k < 9 {
-        let to = at + WIDTHS[k];
-        cells::fill_cell(&mut line[at..to], cells[k]);
-        at = to;
-        k += 1;
+    let mut at = 0;
+    for (width, cell) in widths.iter().zip(cells) {
+        cells::fill_cell(&mut line[at..at + *width], *cell);
+        at += *width;
     }
-    line[72] = 10;
-}
-
-// Fills the whole slice with the last line, whose cells fit: two columns of 9, and blanks.
-fn fill_total(line: &mut [u8], cells: [Cell; 3])
-    requires { (length line.old ≡ 73) × (cells_fit total_widths cells ≡ true) }
-    ensures { line.new ≡ cell_line total_widths cells }
-{
-    cells::fill_cell(&mut line[0..9], cells[0]);
-    cells::fill_cell(&mut line[9..18], cells[1]);
-    cells::fill_cell(&mut line[18..72], cells[2]);
-    line[72] = 10;
-}
-
-// The minute of the last stamp: nine columns take it, behind a minus sign too.
-fn minute_of(day: u16, time: u16) -> u32
-    ensures { (result ≡ minute_of day time) × (result < 10 ^ 8) }
-{
-    stamps::minute_of(day, time)
+    line[at] = b'\n';
 }
 
 // Writes the lines of the live authorities to the front of the buffer; later bytes stay.
-fn write_authorities(register: Register, page: &mut [u8])
-    requires { Kept register × (2409 ≤ length page.old) }
-    ensures { page.new ≡ page_of (map (authority_line (minute_of register.day register.time)) (prefix register.live register.authorities)) ++ drop (73 * register.live) page.old }
+fn write_authorities(register: &Register, page: &mut [u8])
+    requires { Kept register.now × (2409 ≤ length page.old) }
+    ensures { let r = register.now in
+        let lines = map (authority_line (minute_of r.day r.time)) r.authorities.items in
+        page.new ≡ page_of lines ++ drop (73 * length lines) page.old }
 {
-    let now = minute_of(register.day, register.time);
-    let mut i: usize = 0;
-    while i < register.live {
-        let at = 73 * i;
-        fill_authority(
-            &mut page[at..at + 73],
-            authority_cells(register.authorities[i], now),
+    let now = stamps::minute_of(register.day, register.time);
+    for (i, authority) in register.authorities.iter().enumerate() {
+        let at = LINE_SIZE * i;
+        fill_cells(
+            &mut page[at..at + LINE_SIZE],
+            &WIDTHS,
+            &authority_cells(*authority, now),
         );
-        i += 1;
     }
 }
 
-// Writes the sheet of a register to the front of the buffer: 0 and the number of lines, and later bytes stay. A buffer under 33 lines of 73 bytes
-// gives 23 and stays as it was.
-pub fn write_sheet(register: Register, page: &mut [u8]) -> Written
-    requires { Kept register }
-    ensures { SheetPost register page.old result.answer result.lines page.new }
+// Writes the sheet of a register to the front of the buffer: 0 and the number of lines, and later bytes stay. A buffer
+// that is shorter than a page gives 23 and stays as it was.
+pub fn write_sheet(register: &Register, page: &mut [u8]) -> Written
+    requires { Kept register.now }
+    ensures { SheetPost register.now page.old result.answer result.lines page.new }
 {
-    if page.len() < 2409 {
+    if page.len() < PAGE_SIZE {
         return Written {
             answer: SHORT_PAGE,
             lines: 0,
         };
     }
     write_authorities(register, page);
-    let live = register.live;
-    let at = 73 * live;
-    fill_total(&mut page[at..at + 73], total_cells(register));
+    let live = register.authorities.len();
+    let at = LINE_SIZE * live;
+    fill_cells(
+        &mut page[at..at + LINE_SIZE],
+        &TOTAL_WIDTHS,
+        &total_cells(register),
+    );
     Written {
         answer: 0,
         lines: live + 1,

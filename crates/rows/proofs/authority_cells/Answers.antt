@@ -5,7 +5,5 @@ use Rattle.rows.proofs.authority_cells.Goals as goal
 
 pub returns : goal.returns
 returns c =
-    let agreed = c.struct_known-3-1.given.1.1.1.1.1.1.0.0 in
-    authority_line_lem _ _ _ _ _ _ _ _ (search rules) (search rules) agreed.fits
-    c.kind_no.ensures c.least.ensures c.greatest.ensures c.stage_no.ensures
-    c.site_no.ensures c.minutes_in_hand.ensures
+    authority_line_lem c.args.now c.args.a _ _ _ _ _ _ (search rules) (search rules) (search rules)
+    c.kind_no.ensures c.least.ensures c.greatest.ensures c.stage_no.ensures c.site_no.ensures c.minutes_in_hand.ensures

@@ -2,9 +2,12 @@
 use Rattle.std.proofs.Common.{ap, ◌∙◌}
 use Rattle.portions.specs.Sets.{size}
 use Rattle.rules.specs.Board.{board_of}
+use Rattle.rules.specs.Sheet.{held_portions}
 use Rattle.rows.proofs.Fitting.{total_line_lem}
 use Rattle.rows.proofs.total_cells.Goals as goal
 
 pub returns : goal.returns
 unfolding board_of
-returns c = total_line_lem _ _ _ (c.size.ensures ∙ ap size c.held_portions.ensures) c.size-2.ensures
+returns c =
+    let held = c.held_portions.ensures ∙ ap held_portions c.deref.ensures.0 in
+    total_line_lem _ _ _ (c.size.ensures ∙ ap size held) c.size-2.ensures

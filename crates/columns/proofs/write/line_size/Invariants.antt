@@ -1,11 +1,14 @@
-use Rattle.std.proofs.Common.{◌≡◌, cond, ◌-◌, ◌≤◌, length, drop}
+use Rattle.std.proofs.Common.{◌≡◌, cond, ◌≤◌, length}
+use Rattle.std.specs.Iterator.Adapters.{zip_first, zip_second}
+use Rattle.std.specs.Slice.Iter.{iter_rest}
 use Rattle.columns.specs.Line.{line, writable}
 use Rattle.columns.proofs.Filling.{size_from}
 use Rattle.columns.proofs.write.line_size.Given as goal
 
-abbrev pub invariant-loop-k : goal.invariant-loop-k
-invariant-loop-k l = (l.k ≤ length l.widths) × (length l.widths ≡ length l.numbers) × (l.size ≤ l.room)
-    × (cond (writable l.room l.widths l.numbers) (length (line l.widths l.numbers)) 0 ≡ size_from l.room l.size (drop l.k l.widths) (drop l.k l.numbers))
-
-abbrev pub decreases-loop-k : goal.decreases-loop-k
-decreases-loop-k l = length l.widths - l.k
+abbrev pub invariant-loop-width : goal.invariant-loop-width
+invariant-loop-width l =
+    let ws = iter_rest (zip_first l.width-iterator) in
+    let ns = iter_rest (zip_second l.width-iterator) in
+    (l.size ≤ l.room) × (length ws ≡ length ns)
+    × (cond (writable l.room l.widths l.numbers) (length (line l.widths l.numbers)) 0
+    ≡ size_from l.room l.size ws ns)

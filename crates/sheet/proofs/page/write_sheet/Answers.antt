@@ -1,17 +1,22 @@
 -- `sheet::page::write_sheet` meets its contract. Assumes nothing.
-use Rattle.std.proofs.Common.{◌≡◌, length, rules}
-use Rattle.lists.proofs.Prefix.{unmapped}
-use Rattle.sheet.proofs.Pages.{sheet_short, sheet_long}
+use Rattle.std.proofs.Common.{refl, sym, ◌∙◌, arith}
+use Rattle.columns.proofs.Writing.{part_length}
+use Rattle.rows.proofs.Fitting.{total_73}
+use Rattle.sheet.proofs.Pages.{page_room, sheet_short, sheet_long}
 use Rattle.sheet.proofs.page.write_sheet.Goals as goal
-use Rattle.sheet.proofs.page.write_sheet.Goals.{Start}
 
-pub returns-then-page-lt2409 : goal.returns-then-page-lt2409
-returns-then-page-lt2409 c = sheet_short _ _ c.if-page-lt2409.true
+pub returns-then-page-lt-PAGE_SIZE : goal.returns-then-page-lt-PAGE_SIZE
+returns-then-page-lt-PAGE_SIZE c = sheet_short _ _ c.if-page-lt-PAGE_SIZE.true
 
--- the register has 32 places for authorities
-places : (c : Start) → length c.args.register.authorities ≡ 32
-places c = search unmapped
+pub fill_cells-requires : goal.fill_cells-requires
+fill_cells-requires c =
+    let fit = c.total_cells.ensures.1 in
+    let room = page_room c.args.register.now c.args.page.now _ c.requires c.if-page-lt-PAGE_SIZE.false
+    c.write_authorities.auto.page _ c.len-live.ensures.value in
+    (omega arith, (omega arith, (part_length _ _ 73 _ room refl ∙ sym (total_73 _ fit), fit)))
 
 pub returns : goal.returns
 returns c =
-    sheet_long _ _ _ c.requires c.if-page-lt2409.false (search rules) c.write_authorities.ensures _ _ (places (goal.at.returns c).Start) c.total_cells.ensures c.fill_total.ensures
+    let a = c.write_authorities in
+    sheet_long _ _ _ c.requires c.if-page-lt-PAGE_SIZE.false a.auto.page _ c.len-live.ensures.value
+    a.ensures _ _ c.total_cells.ensures c.fill_cells.ensures
