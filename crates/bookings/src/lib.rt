@@ -17,6 +17,7 @@ pub fn booking_at(bookings: &[Booking], g: GateNo) -> Booking
 }
 
 // The gate can be blocked: it isn't a plain automatic signal, or it is out.
+#[tactic(auto, unfolding(rules::specs::Board::board_of, rules::specs::Board::is_out, rules::specs::Board::can_be_blocked))]
 pub fn can_be_blocked(register: &Register, g: GateNo) -> bool
     ensures { result ≡ can_be_blocked (board_of register.now) g.0 }
 {
@@ -25,6 +26,7 @@ pub fn can_be_blocked(register: &Register, g: GateNo) -> bool
     (gate.kind != 4) | (booking.paper.0 != 0)
 }
 
+#[tactic(auto, using(std::proofs::lemmas::Bool::Decides::nat_tests), unfolding(rules::specs::Board::board_of, rules::specs::Board::is_out, rules::specs::Refusals::lowest))]
 pub fn answer_book_out(register: &Register, g: GateNo) -> Result<(), Refusal>
     ensures { answer_no result ≡ lowest (book_out_refusals (board_of register.now) g.0) }
 {
@@ -40,6 +42,7 @@ pub fn answer_book_out(register: &Register, g: GateNo) -> Result<(), Refusal>
 }
 
 // 5 is that the paper is not the one booked: a gate that isn't out has none.
+#[tactic(auto, using(std::proofs::lemmas::Bool::Decides::nat_tests), unfolding(rules::specs::Board::board_of, rules::specs::Refusals::lowest, rules::specs::Refusals::not_booked, rules::specs::Refusals::restores_blocked))]
 pub fn answer_book_in(
     register: &Register,
     g: GateNo,

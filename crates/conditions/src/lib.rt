@@ -18,6 +18,7 @@ pub fn is_full(register: &Register) -> bool
 }
 
 // 11: a gate that the authority needs isn't blocked.
+#[tactic(auto, using(gates::proofs::Needs::unprotected_subset), unfolding(rules::specs::Board::board_of))]
 pub fn is_unprotected(register: &Register, a: Authority) -> bool
     ensures { result ≡ unprotected (board_of register.now) a }
 {
@@ -58,6 +59,7 @@ pub fn is_still_needed(register: &Register, g: GateNo) -> bool
 }
 
 // 21: the start is before the call or less than 10,080 minutes after it.
+#[tactic(auto, unfolding(rules::specs::Refusals::too_soon, rules::specs::Refusals::minute))]
 pub fn is_too_soon(s: Seven, start: u32) -> bool
     ensures { result ≡ too_soon s start }
 {
@@ -67,6 +69,7 @@ pub fn is_too_soon(s: Seven, start: u32) -> bool
 }
 
 // 22: an LPA has no term or the call's minute is outside it.
+#[tactic(auto, unfolding(rules::specs::Refusals::outside_term, rules::specs::Refusals::in_term, rules::specs::Refusals::minute))]
 pub fn is_outside_term(s: Seven, a: Authority) -> bool
     ensures { result ≡ outside_term s a }
 {
