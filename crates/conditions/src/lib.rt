@@ -1,10 +1,11 @@
-// The conditions for refusal that are a search or a sum of their own: full, unprotected, occupied, overlapping, still needed, and those on terms
-// (02, order 1).
+// The conditions for refusal that are a search or a sum of their own: full, unprotected, occupied, overlapping, still
+// needed, and those on terms (02, order 1).
 #![tactic(auto)]
 
 ghost use Rattle.std.specs.Prelude.{◌≡◌};
 ghost use Rattle.rules.specs.Board.{board_of};
-ghost use Rattle.rules.specs.Refusals.{full, unprotected, occupied, occupied_beside, overlaps, still_needed, too_soon, outside_term};
+ghost use Rattle.rules.specs.Refusals.{full, unprotected, occupied, occupied_beside, overlaps, still_needed};
+ghost use Rattle.rules.specs.Refusals.{too_soon, outside_term};
 
 use rules::{Authority, AuthorityNo, GateNo, Kind, Register, Seven};
 use stamps::minute_of;
