@@ -1,5 +1,5 @@
-// Gates booked out of use (02, order 6): a gate's booking; whether the gate can be blocked; and the refusals of BOOK OUT and BOOK IN, the lowest
-// whose condition holds.
+// Gates booked out of use (02, order 6): a gate's booking; whether the gate can be blocked; and the refusals of BOOK
+// OUT and BOOK IN, the lowest whose condition holds.
 #![tactic(auto)]
 
 ghost use Rattle.std.specs.Prelude.{◌≡◌};
@@ -17,14 +17,14 @@ pub fn booking_at(bookings: &[Booking], g: GateNo) -> Booking
 }
 
 // The gate can be blocked: it isn't a plain automatic signal, or it is out.
+#[tactic(auto, unfolding(rules::specs::Board::board_of, rules::specs::Board::is_out, rules::specs::Board::can_be_blocked))]
 pub fn can_be_blocked(register: &Register, g: GateNo) -> bool
     ensures { result ≡ can_be_blocked (board_of register.now) g.0 }
 {
-    let gate = gates::gate_at(&register.gates, g);
-    let booking = booking_at(&register.bookings, g);
-    (gate.kind != 4) | (booking.paper.0 != 0)
+    gates::gate_at(&register.gates, g).kind != 4 || booking_at(&register.bookings, g).paper.0 != 0
 }
 
+#[tactic(auto, unfolding(rules::specs::Board::board_of, rules::specs::Board::is_out, rules::specs::Refusals::lowest))]
 pub fn answer_book_out(register: &Register, g: GateNo) -> Result<(), Refusal>
     ensures { answer_no result ≡ lowest (book_out_refusals (board_of register.now) g.0) }
 {
@@ -40,6 +40,7 @@ pub fn answer_book_out(register: &Register, g: GateNo) -> Result<(), Refusal>
 }
 
 // 5 is that the paper is not the one booked: a gate that isn't out has none.
+#[tactic(auto, unfolding(rules::specs::Board::board_of, rules::specs::Refusals::lowest, rules::specs::Refusals::not_booked, rules::specs::Refusals::restores_blocked))]
 pub fn answer_book_in(
     register: &Register,
     g: GateNo,
@@ -49,10 +50,10 @@ pub fn answer_book_in(
     ensures { answer_no result ≡ lowest (book_in_refusals (board_of register.now) g.0 paper.0 certified) }
 {
     let booking = booking_at(&register.bookings, g);
-    if booking.paper.0 != paper.0 {
+    if booking.paper != paper {
         return Err(Refusal::NotLive);
     }
-    if certified & portions::has(register.blocks, g.0) {
+    if certified && portions::has(register.blocks, g.0) {
         return Err(Refusal::BlockOn);
     }
     Ok(())

@@ -1,10 +1,11 @@
-// The conditions for refusal that are a search or a sum of their own: full, unprotected, occupied, overlapping, still needed, and those on terms
-// (02, order 1).
+// The conditions for refusal that are a search or a sum of their own: full, unprotected, occupied, overlapping, still
+// needed, and those on terms (02, order 1).
 #![tactic(auto)]
 
 ghost use Rattle.std.specs.Prelude.{◌≡◌};
 ghost use Rattle.rules.specs.Board.{board_of};
-ghost use Rattle.rules.specs.Refusals.{full, unprotected, occupied, occupied_beside, overlaps, still_needed, too_soon, outside_term};
+ghost use Rattle.rules.specs.Refusals.{full, unprotected, occupied, occupied_beside, overlaps, still_needed};
+ghost use Rattle.rules.specs.Refusals.{too_soon, outside_term};
 
 use rules::{Authority, AuthorityNo, GateNo, Kind, Register, Seven};
 use stamps::minute_of;
@@ -18,6 +19,7 @@ pub fn is_full(register: &Register) -> bool
 }
 
 // 11: a gate that the authority needs isn't blocked.
+#[tactic(auto, using(gates::proofs::Needs::unprotected_subset), unfolding(rules::specs::Board::board_of))]
 pub fn is_unprotected(register: &Register, a: Authority) -> bool
     ensures { result ≡ unprotected (board_of register.now) a }
 {
@@ -58,6 +60,7 @@ pub fn is_still_needed(register: &Register, g: GateNo) -> bool
 }
 
 // 21: the start is before the call or less than 10,080 minutes after it.
+#[tactic(auto, unfolding(rules::specs::Refusals::too_soon, rules::specs::Refusals::minute))]
 pub fn is_too_soon(s: Seven, start: u32) -> bool
     ensures { result ≡ too_soon s start }
 {
@@ -67,6 +70,7 @@ pub fn is_too_soon(s: Seven, start: u32) -> bool
 }
 
 // 22: an LPA has no term or the call's minute is outside it.
+#[tactic(auto, unfolding(rules::specs::Refusals::outside_term, rules::specs::Refusals::in_term, rules::specs::Refusals::minute))]
 pub fn is_outside_term(s: Seven, a: Authority) -> bool
     ensures { result ≡ outside_term s a }
 {

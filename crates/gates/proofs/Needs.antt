@@ -23,10 +23,10 @@ unfolding needed_of
 needed_has gates limits g = has-set_of (length gates) (is_needed limits gates) g
 
 -- an authority is unprotected where the gates that it needs are not all blocked
-pub unprotected-subset : (b : Board) (a : Authority) → length b.gates ≤ 64
+pub unprotected_subset : (b : Board) (a : Authority) → length b.gates ≤ 64
     → unprotected b a ≡ not (subset (needed_of b.gates a.limits) b.blocks)
 unfolding unprotected is_open subset
-unprotected-subset b a few =
+unprotected_subset b a few =
     let unblocked = is_open b a.limits in
     let left = in_first_only (needed_of b.gates a.limits) b.blocks in
     let same : (g : ℕ) → left g ≡ (ltb g (length b.gates) && unblocked g) = λ g. rw (needed_has, and_assoc) in

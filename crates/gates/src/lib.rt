@@ -1,7 +1,7 @@
 // The gates of a plan: the gate with a number, and the gates that limits need.
 #![tactic(auto)]
 
-ghost use Rattle.std.specs.Prelude.{◌≡◌};
+ghost use Rattle.std.specs.Prelude.{◌≡◌, ◌≤◌, length};
 ghost use Rattle.rules.specs.Board.{gate_at, needs};
 ghost use Rattle.gates.specs.Needs.{needed_of};
 
@@ -26,7 +26,8 @@ pub fn is_needed(limits: u64, gate: Gate) -> bool
 // The set of the gates that lead into the limits.
 #[tactic(auto, using(crate::proofs::Needs::building), unfolding(crate::specs::Needs::needed_of))]
 pub fn needed(gates: &ArrayVec<Gate, 64>, limits: u64) -> u64
-    ensures { result ≡ needed_of gates.now.items limits }
+    ensures value { result ≡ needed_of gates.now.items limits }
+    ensures fits { length gates.now.items ≤ 64 }
 {
     let mut set: u64 = 0;
     for (i, gate) in gates.iter().enumerate() {
