@@ -1,7 +1,10 @@
 // The answer to each call: accepted, or the lowest refusal whose condition holds.
-ghost use Rattle.std.specs.Prelude.{◌≡◌, Some};
-ghost use Rattle.rules.specs.Board.{board_of};
-ghost use Rattle.rules.specs.Refusals.{lowest, request_refusals, withdraw_refusals, block_refusals, unblock_refusals, grant_refusals, clear_refusals, reoccupy_refusals, hand_over_refusals, fulfil_refusals, continue_refusals, own};
+ghost use Rattle.std.specs.Prelude.{◌≡◌, not, ◌||◌, ◌∷◌, [], eqb, Some};
+ghost use Rattle.rules.specs.Board.{board_of, is_in_force};
+ghost use Rattle.rules.specs.Refusals.{◌when◌, unprotected, occupied_beside, overlaps, outside_term};
+ghost use Rattle.rules.specs.Refusals.{lowest, request_refusals, withdraw_refusals, block_refusals, unblock_refusals};
+ghost use Rattle.rules.specs.Refusals.{grant_refusals, clear_refusals, reoccupy_refusals, hand_over_refusals};
+ghost use Rattle.rules.specs.Refusals.{fulfil_refusals, continue_refusals, own};
 ghost use Rattle.rules.specs.Answer.{answer_no};
 
 use crate::terms::answer_term;
@@ -13,7 +16,7 @@ use conditions::{
     is_unprotected,
 };
 use movements::{answer_move, answer_passed};
-use rules::{AuthorityNo, Call, GateNo, Kind, Refusal, Register, Seven};
+use rules::{Authority, AuthorityNo, Call, GateNo, Kind, Refusal, Register, Seven};
 
 #[tactic(auto, unfolding(rules::specs::Board::board_of, rules::specs::Refusals::lowest))]
 fn answer_request(register: &Register) -> Result<(), Refusal>
@@ -143,7 +146,12 @@ fn answer_hand_over(register: &Register, n: AuthorityNo, out: u16, into: u16) ->
 }
 
 #[tactic(auto, using(authorities::proofs::AuthorityLaws::not_found, authorities::proofs::AuthorityLaws::found), unfolding(rules::specs::Board::board_of, rules::specs::Refusals::lowest, rules::specs::Refusals::not_officer))]
-fn answer_fulfil(register: &Register, n: AuthorityNo, officer: u16, assurances: u16) -> Result<(), Refusal>
+fn answer_fulfil(
+    register: &Register,
+    n: AuthorityNo,
+    officer: u16,
+    assurances: u16,
+) -> Result<(), Refusal>
     ensures { answer_no result ≡ lowest (fulfil_refusals (board_of register.now) n.0 officer assurances) }
 {
     let a = find(&register.authorities, n).ok_or(Refusal::NotLive)?;
@@ -162,12 +170,27 @@ fn answer_fulfil(register: &Register, n: AuthorityNo, officer: u16, assurances: 
     Ok(())
 }
 
-#[tactic(auto, using(authorities::proofs::AuthorityLaws::not_found, authorities::proofs::AuthorityLaws::found), unfolding(rules::specs::Board::board_of, rules::specs::Refusals::lowest, rules::specs::Refusals::not_officer))]
-fn answer_continue(register: &Register, s: Seven, old: AuthorityNo, new: AuthorityNo, officer_old: u16, officer_new: u16) -> Result<(), Refusal>
-    ensures { answer_no result ≡ lowest (continue_refusals (board_of register.now) s old.0 new.0 officer_old officer_new) }
+// 6, 7, 11, 12, 13 and 22 of CONTINUE, with the two found.
+// Kept: a function of its own. With the two searches in it the check stops at its limit of case splits.
+#[tactic(auto, using(authorities::proofs::Finding::refusals))]
+fn decide_continue(
+    register: &Register,
+    s: Seven,
+    old: AuthorityNo,
+    x: Authority,
+    y: Authority,
+    officer_old: u16,
+    officer_new: u16,
+) -> Result<(), Refusal>
+    ensures { answer_no result
+        ≡ lowest (6 when (not (is_in_force x) || is_in_force y)
+        ∷ 7 when (not (eqb x.officer officer_old) || not (eqb y.officer officer_new))
+        ∷ 11 when unprotected (board_of register.now) y
+        ∷ 12 when occupied_beside (board_of register.now) old.0 y
+        ∷ 13 when overlaps (board_of register.now) old.0 y
+        ∷ 22 when outside_term s y
+        ∷ []) }
 {
-    let x = find(&register.authorities, old).ok_or(Refusal::NotLive)?;
-    let y = find(&register.authorities, new).ok_or(Refusal::NotLive)?;
     if !x.in_force | y.in_force {
         return Err(Refusal::Stage);
     }
@@ -189,6 +212,22 @@ fn answer_continue(register: &Register, s: Seven, old: AuthorityNo, new: Authori
     Ok(())
 }
 
+#[tactic(auto, using(authorities::proofs::AuthorityLaws::not_found, authorities::proofs::AuthorityLaws::found), unfolding(rules::specs::Board::board_of, rules::specs::Refusals::lowest, rules::specs::Refusals::not_officer))]
+fn answer_continue(
+    register: &Register,
+    s: Seven,
+    old: AuthorityNo,
+    new: AuthorityNo,
+    officer_old: u16,
+    officer_new: u16,
+) -> Result<(), Refusal>
+    ensures { answer_no result ≡ lowest (continue_refusals (board_of register.now) s old.0 new.0 officer_old officer_new) }
+{
+    let x = find(&register.authorities, old).ok_or(Refusal::NotLive)?;
+    let y = find(&register.authorities, new).ok_or(Refusal::NotLive)?;
+    decide_continue(register, s, old, x, y, officer_old, officer_new)
+}
+
 // The lowest of the call's own refusals, from 5 on, whose condition holds, or none. `s` has the call's stamp.
 #[tactic(auto, unfolding(rules::specs::Refusals::own))]
 pub fn answer_of(register: &Register, s: Seven, c: Call) -> Result<(), Refusal>
@@ -203,22 +242,47 @@ pub fn answer_of(register: &Register, s: Seven, c: Call) -> Result<(), Refusal>
         Call::Grant { authority, officer } => answer_grant(register, s, authority, officer),
         Call::Clear { authority, officer } => answer_clear(register, authority, officer),
         Call::Reoccupy { authority, officer } => answer_reoccupy(register, authority, officer),
-        Call::HandOver { authority, out, into } => answer_hand_over(register, authority, out, into),
-        Call::Fulfil { authority, officer, assurances } => {
-            answer_fulfil(register, authority, officer, assurances)
-        }
-        Call::Continue { old, new, officer_old, officer_new } => {
-            answer_continue(register, s, old, new, officer_old, officer_new)
-        }
-        Call::Move { train, gate, authority, officer } => {
-            answer_move(register, train, gate, authority, officer)
-        }
+        Call::HandOver {
+            authority,
+            out,
+            into,
+        } => answer_hand_over(register, authority, out, into),
+        Call::Fulfil {
+            authority,
+            officer,
+            assurances,
+        } => { answer_fulfil(register, authority, officer, assurances) }
+        Call::Continue {
+            old,
+            new,
+            officer_old,
+            officer_new,
+        } => { answer_continue(register, s, old, new, officer_old, officer_new) }
+        Call::Move {
+            train,
+            gate,
+            authority,
+            officer,
+        } => { answer_move(register, train, gate, authority, officer) }
         Call::Passed { train } => answer_passed(register, train),
-        Call::Term { authority, day, time, .. } => answer_term(register, s, authority, day, time),
-        Call::Join { twa, toa, officer, distance } => {
-            answer_join(register, twa, toa, officer, distance)
-        }
+        Call::Term {
+            authority,
+            day,
+            time,
+            ..
+        } => answer_term(register, s, authority, day, time),
+        Call::Join {
+            twa,
+            toa,
+            officer,
+            distance,
+        } => { answer_join(register, twa, toa, officer, distance) }
         Call::BookOut { gate, .. } => answer_book_out(register, gate),
-        Call::BookIn { gate, paper, certified, .. } => answer_book_in(register, gate, paper, certified),
+        Call::BookIn {
+            gate,
+            paper,
+            certified,
+            ..
+        } => answer_book_in(register, gate, paper, certified),
     }
 }
