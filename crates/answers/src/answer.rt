@@ -184,10 +184,10 @@ fn decide_continue(
         ∷ 22 when outside_term s y
         ∷ []) }
 {
-    if !x.in_force | y.in_force {
+    if !x.in_force || y.in_force {
         return Err(Refusal::Stage);
     }
-    if (x.officer != officer_old) | (y.officer != officer_new) {
+    if x.officer != officer_old || y.officer != officer_new {
         return Err(Refusal::Officer);
     }
     if is_unprotected(register, y) {
