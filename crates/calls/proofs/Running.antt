@@ -12,8 +12,7 @@ use Rattle.rules.specs.declared.Seven.{Seven}
 use Rattle.rules.specs.declared.Register.{Register}
 use Rattle.rules.specs.Board.{Board, board_of}
 use Rattle.rules.specs.Step.{Kept, after}
-use Rattle.lines.specs.declared.Line.{Line}
-use Rattle.lines.specs.declared.Line.TheVariants.{Call, Malformed}
+use Rattle.std.specs.Prelude.{Option, Some, None}
 use Rattle.lines.specs.Line.{line_in}
 use Rattle.calls.specs.Run.{run_of, ◌then_run◌, RunPost}
 use Rattle.lines.proofs.Texts.{call_length}
@@ -26,12 +25,12 @@ pub line_part : (at : ℕ) (text : List ℕ) → line_in (mid_of at (at + 43 - a
 line_part at text = let e : at + 43 - at ≡ 43 = omega arith in rw e
 
 -- fewer bytes than a line has
-pub short_malformed : (at : ℕ) (text : List ℕ) → length text - at < 43 → line_in (take 43 (drop at text)) ≡ Malformed
+pub short_malformed : (at : ℕ) (text : List ℕ) → length text - at < 43 → line_in (take 43 (drop at text)) ≡ None
 short_malformed at text h = go (line_in (take 43 (drop at text))) refl
   where
-    go : (l : Line) → line_in (take 43 (drop at text)) ≡ l → l ≡ Malformed
-    go (Call c) e = absurd (omega (arith, call_length (take 43 (drop at text)) c e, length-take 43 (drop at text), length-drop at text))
-    go Malformed e = refl
+    go : (l : Option Seven) → line_in (take 43 (drop at text)) ≡ l → l ≡ None
+    go (Some c) e = absurd (omega (arith, call_length (take 43 (drop at text)) c e, length-take 43 (drop at text), length-drop at text))
+    go None e = refl
 
 -- ---- the loop, k of at most n calls made
 
@@ -55,7 +54,7 @@ module _ (n : ℕ) (b₀ : Board) (text out₀ : List ℕ) where
   module _ (k : ℕ) (b : Board) (out : List ℕ) (so_far : SoFar k b out) where
     -- a call more, with its line in the buffer
     pub so_far_call : (c : Seven) (b₁ : Board) (last : List ℕ) → k < n → 43 ≤ length text - 43 * k → 55 * n ≤ length out₀
-        → line_in (take 43 (drop (43 * k) text)) ≡ Call c → b₁ ≡ after b c 55 → length last ≡ 55 → last ≡ line_on b c
+        → line_in (take 43 (drop (43 * k) text)) ≡ Some c → b₁ ≡ after b c 55 → length last ≡ 55 → last ≡ line_on b c
         → SoFar (k + 1) b₁ (put_mid (55 * k) (55 * k + 55 - 55 * k) out last)
     so_far_call c b₁ last more left room e eb l el =
         let at = 55 * k in
@@ -109,5 +108,5 @@ module _ (n : ℕ) (b₀ : Board) (text out₀ : List ℕ) where
     pub so_far_full : n ≤ k → run_of (n - k) b (drop (43 * k) text) ≡ going b [] 0
     so_far_full h = let e : n - k ≡ 0 = omega arith in rw e (run_none b (drop (43 * k) text))
 
-    pub so_far_malformed : k < n → line_in (take 43 (drop (43 * k) text)) ≡ Malformed → run_of (n - k) b (drop (43 * k) text) ≡ stopped_at b
+    pub so_far_malformed : k < n → line_in (take 43 (drop (43 * k) text)) ≡ None → run_of (n - k) b (drop (43 * k) text) ≡ stopped_at b
     so_far_malformed h e = let s : n - k ≡ suc (n - (k + 1)) = omega arith in rw s (run_malformed b (drop (43 * k) text) (n - (k + 1)) e)
