@@ -15,6 +15,8 @@ pub struct Ran {
 }
 
 // The run on a register that is lent: how many calls it made.
+// Kept: an index, and no zip of the text's lines with chunks_exact_mut of out: once such a loop is over, a proof knows how
+// long out is, and not what its chunks hold.
 fn run_lines(register: &mut Register, text: &[u8], out: &mut [u8]) -> usize
     requires { Kept register.old }
     ensures { RunPost register.old text.now out.old register.new result out.new }
@@ -33,8 +35,8 @@ fn run_lines(register: &mut Register, text: &[u8], out: &mut [u8]) -> usize
     most
 }
 
-// Makes the calls of a text in order, up to a malformed line, and puts their journal lines to the front of out: as many calls at
-// most as out has room for. Later bytes stay.
+// Makes the calls of a text in order, up to a malformed line, and puts their journal lines to the front of out: as many
+// calls at most as out has room for. Later bytes stay.
 pub fn run(mut register: Register, text: &[u8], out: &mut [u8]) -> Ran
     requires { Kept register }
     ensures { RunPost register text.now out.old result.register result.lines out.new }
