@@ -51,4 +51,3 @@ journal_filled s front before after c answer number r w e f k small few =
     let written : after ≡ line (6 ∷ 6 ∷ []) two =
     w.bytes ∙ rw (can, line-length (6 ∷ 6 ∷ []) two fit, drop_of_length-le before {i = 13} (omega arith)) (append-nil (line (6 ∷ 6 ∷ []) two)) in
     rw (f, written) (journal_line_lem s c answer number e)
-

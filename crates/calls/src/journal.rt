@@ -18,6 +18,9 @@ pub fn write_journal(text: &[u8], s: Seven, answer: Answer, out: &mut [u8])
     write_line(
         answered,
         &[6; 2],
-        &[u32::from(answer_number(answer)), u32::from(allotted_number(answer))],
+        &[
+            u32::from(answer_number(answer)),
+            u32::from(allotted_number(answer)),
+        ],
     );
 }
