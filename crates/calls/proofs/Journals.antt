@@ -1,14 +1,12 @@
 -- Laws of the journal line that begins with a call line. Assumes nothing.
-use Prim.Native.Nat.{ℕ, suc, ◌+◌, ◌<◌}
+use Prim.Native.Nat.{ℕ, ◌+◌, ◌<◌}
 use native.Mathlib.Omega.{arith}
-use native.Mathlib.Numerals.{add-one}
-use mathlib.Core.Path.{◌≡◌, refl, sym, ◌∙◌}
+use mathlib.Core.Path.{◌≡◌, refl, ◌∙◌}
 use mathlib.Core.Bool.{Bool, true, false≢true}
 use mathlib.Core.List.{List, [], ◌∷◌, ◌++◌, append_assoc, append-nil}
-use lib.ListN.{length, take, drop, get_or, set, length-append, length-drop, drop_of_length-le}
-use lib.Seq.{drop-cons, take-suc, set_at, append_snoc, take_at, take-append-add, length-take-le}
+use lib.ListN.{length, take, drop_of_length-le}
+use lib.Seq.{take-append-add}
 use borrow.Author.Tests.{le-leb}
-use borrow.Rule.Slice.PartMut.{mid_of, put_mid, post_of, mid_len, Post-is}
 use Rattle.lists.proofs.Tests.{and_l, and_r}
 use Rattle.columns.specs.Column.{column, fits}
 use Rattle.columns.specs.Line.{line, all_fit, Written, with_line}
@@ -18,7 +16,7 @@ use Rattle.rules.specs.declared.Seven.{Seven}
 use Rattle.rules.specs.Journal.{journal_line}
 use Rattle.std.specs.Prelude.{Some}
 use Rattle.lines.specs.Line.{call_widths, line_in}
-use Rattle.lines.proofs.Texts.{numbers_of, call_line, six_fit, call_length}
+use Rattle.lines.proofs.Texts.{numbers_of, call_line, six_fit}
 
 -- a line without its line feed, with another line behind it, is one line
 line_append : (ws vs ns ms : List ℕ) → all_fit ws ns ≡ true → take (total ws) (line ws ns) ++ line vs ms ≡ line (ws ++ vs) (ns ++ ms)

@@ -16,7 +16,7 @@ use Rattle.std.specs.Prelude.{Option, Some, None}
 use Rattle.lines.specs.Line.{line_in}
 use Rattle.calls.specs.Run.{run_of, ◌then_run◌, RunPost}
 use Rattle.lines.proofs.Texts.{call_length}
-use Rattle.calls.proofs.Parts.{going, stopped_at, line_on, run_none, run_malformed, run_call}
+use Rattle.calls.proofs.Parts.{going, line_on, run_none, run_malformed, run_call}
 
 -- ---- the line from a place on
 
