@@ -221,6 +221,7 @@ fn name(s: Seven) -> Option<Call>
 
 // The call that the seven numbers are, on a board of that many portions and gates: refused with 2 where no call has the number, with 3 where the
 // stamp or a field is out of its range.
+#[tactic(auto, using(crate::proofs::Table::is_call_lem), unfolding(rules::specs::Call::decoded, rules::specs::Call::in_ranges))]
 pub fn decode(portions: u16, gates: usize, s: Seven) -> Result<Call, Refusal>
     ensures { result ≡ decoded portions gates s }
 {

@@ -1,5 +1,5 @@
 // The stamp of a call: its day and time, whether they are in their ranges, and the minute that they are.
-#![tactic(auto)]
+#![tactic(auto, unfolding(rules::specs::Call::is_day, rules::specs::Call::is_time, rules::specs::Call::minute_of))]
 
 ghost use Rattle.std.specs.Prelude.{◌≡◌, ◌&&◌};
 ghost use Rattle.rules.specs.Call.{is_day, is_time, minute_of};
