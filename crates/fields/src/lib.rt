@@ -30,7 +30,7 @@ fn is_in_range(portions: u16, gates: usize, field: Field, s: Seven, value: u16) 
         Field::Officer => (1 <= value) & (value <= 999),
         Field::Authority => (1 <= value) & (value <= 9999),
         Field::Train => (1 <= value) & (value <= 9999),
-        Field::Gate => (value as usize) < gates,
+        Field::Gate => usize::from(value) < gates,
         Field::Assurances => value <= 7,
         Field::AuthorityOrNone => value <= 9999,
         Field::OfficerOrNone => value <= 999,

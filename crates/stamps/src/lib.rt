@@ -28,5 +28,5 @@ pub fn is_stamp(day: u16, time: u16) -> bool
 pub fn minute_of(day: u16, time: u16) -> u32
     ensures { result ≡ minute_of day time }
 {
-    day as u32 * 1440 + time as u32 / 100 * 60 + time as u32 % 100
+    u32::from(day) * 1440 + u32::from(time / 100) * 60 + u32::from(time % 100)
 }
