@@ -15,8 +15,8 @@ pub struct Ran {
 }
 
 // The run on a register that is lent: how many calls it made.
-// Kept: an index, and no zip of the text's lines with chunks_exact_mut of out: once such a loop is over, a proof knows how
-// long out is, and not what its chunks hold.
+// Kept: an index, and no zip of the text's lines with chunks_exact_mut of out: once such a loop is over, a proof knows
+// how long out is, and not what its chunks hold.
 fn run_lines(register: &mut Register, text: &[u8], out: &mut [u8]) -> usize
     requires { Kept register.old }
     ensures { RunPost register.old text.now out.old register.new result out.new }
