@@ -103,7 +103,7 @@ fn form_of(call: u16) -> Form
 }
 
 // The kind with that number; one that no authority has, which no REQUEST in its ranges names, stands for a TWA.
-#[tactic(auto, using(crate::proofs::Kinds::kind_or_twa))]
+#[tactic(auto, using(crate::proofs::KindLaws::kind_or_twa))]
 fn kind_of(n: u16) -> Kind
     ensures { result ≡ kind_of n }
 {
