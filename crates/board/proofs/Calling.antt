@@ -1,11 +1,13 @@
--- A call on a register by value, and its line: the register is spread over a head and arrays and read back, and a buffer long enough is as good as one of 55
--- bytes. Assumes nothing.
+-- A call on a register by value, and its line: a buffer long enough is as good as one of 55 bytes. Assumes nothing.
 use Prim.Native.Nat.{ℕ, ◌≤◌, ◌<◌}
 use native.Mathlib.Omega.{arith}
 use mathlib.Core.Path.{◌≡◌, sym, subst, ◌∙◌}
 use mathlib.Core.List.{List, ◌++◌}
 use lib.ListN.{length, drop}
-use borrow.Author.Tests.{le-ltb}
+use borrow.Author.Tests.{le-ltb, ne_eqb}
+use Rattle.std.specs.Prelude.{Err}
+use Rattle.rules.specs.declared.refusal.Refusal.TheVariants.{ShortLine}
+use Rattle.rules.specs.Answer.{answer_no, number_no}
 use Rattle.rules.specs.declared.Seven.{Seven}
 use Rattle.rules.specs.declared.Called.{Called}
 use Rattle.rules.specs.declared.Register.{Register}
@@ -14,25 +16,7 @@ use Rattle.rules.specs.Refusals.{lowest, conditions, answer}
 use Rattle.rules.specs.Journal.{journal_line}
 use Rattle.rules.specs.Step.{Kept, after, allotted, CallPost}
 use Rattle.rules.proofs.Answers.{refused_same, refused_none, short_answer, short_line, long_line}
-use Rattle.take.specs.Lent.{TakePost}
-use Rattle.take.specs.Faults.{with_room}
-
--- ---- a register that is spread over a head and arrays, and read back from them
-
-module _ {r r₀ r' : Register} {s : Seven} {given number : ℕ} (is : r₀ ≡ r) (p : TakePost r₀ s r' given number) where
-  -- of a refused call the register handed in is as good as the one left
-  pub spread_refused : Kept r → (given ≡ 0 → ⊥) → TakePost r s r given number
-  spread_refused k n =
-      let q = subst (λ (r : Register). TakePost r s r' given number) is p in
-      record {
-        board = sym (refused_same (board_of r) s 55 (λ z. n (q.answered ∙ z)));
-        answered = q.answered;
-        number = q.number;
-        kept = k;
-      }
-
-  pub spread_taken : {r'' : Register} → r'' ≡ r' → TakePost r s r'' given number
-  spread_taken e = rw (← is, e) p
+use Rattle.take.specs.Taking.{with_room, TakePost}
 
 -- ---- a buffer long enough is as good as one of 55 bytes
 
@@ -51,7 +35,7 @@ room-allotted b s room h = rw (room-answer b s room h)
 -- ---- the whole call
 
 pub called_short : (r : Register) (s : Seven) (buffer : List ℕ) → Kept r → length buffer < 55
-    → CallPost r s buffer (record { register = r; answer = 1; number = 0 }) buffer
+    → CallPost r s buffer (record { register = r; answer = Err ShortLine }) buffer
 called_short r s buffer k h =
     let one : answer (board_of r) s (length buffer) ≡ 1 = short_answer (board_of r) s (length buffer) h in
     let no : answer (board_of r) s (length buffer) ≡ 0 → ⊥ = λ z. omega arith in
@@ -59,16 +43,18 @@ called_short r s buffer k h =
       board = sym (refused_same (board_of r) s (length buffer) no);
       answered = sym one;
       number = sym (refused_none (board_of r) s (length buffer) no);
+      numbered = rw (ne_eqb (answer (board_of r) s (length buffer)) 0 no);
       line = sym (short_line s 1 0 buffer h);
       kept = k;
     }
 
-pub called_long : (r : Register) (s : Seven) (buffer buffer' : List ℕ) (out : Called) → 55 ≤ length buffer → TakePost r s out.register out.answer out.number
-    → buffer' ≡ journal_line s out.answer out.number ++ drop 55 buffer → CallPost r s buffer out buffer'
+pub called_long : (r : Register) (s : Seven) (buffer buffer' : List ℕ) (out : Called) → 55 ≤ length buffer → TakePost r s out.register out.answer
+    → buffer' ≡ journal_line s (answer_no out.answer) (number_no out.answer) ++ drop 55 buffer → CallPost r s buffer out buffer'
 called_long r s buffer buffer' out h p e = record {
   board = p.board ∙ sym (room_after (board_of r) s (length buffer) h);
   answered = p.answered ∙ sym (room-answer (board_of r) s (length buffer) h);
   number = p.number ∙ sym (room-allotted (board_of r) s (length buffer) h);
-  line = e ∙ sym (long_line s out.answer out.number buffer h);
+  numbered = rw (room-answer (board_of r) s (length buffer) h) p.numbered;
+  line = e ∙ sym (long_line s (answer_no out.answer) (number_no out.answer) buffer h);
   kept = p.kept;
 }

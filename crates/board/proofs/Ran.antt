@@ -9,6 +9,7 @@ use lib.ListN.{length, drop}
 use contract.Lifetimes.{Lfts}
 use denote.Triple.Clauses.{AtExit}
 use borrow.Fn.Kinds.{Dens, ended_of}
+use Rattle.std.specs.Prelude.{Some}
 use Rattle.lists.specs.Search.{any}
 use Rattle.lists.specs.Distinct.{Distinct}
 use Rattle.lists.specs.Order.{Ascending}
@@ -28,6 +29,7 @@ use Rattle.rules.specs.Call.{named}
 use Rattle.rules.specs.Plan.{open_board}
 use Rattle.rules.specs.Refusals.{conditions, answer}
 use Rattle.rules.specs.Journal.{journal_line}
+use Rattle.rules.specs.Answer.{answer_no, number_no}
 use Rattle.rules.specs.Step.{Made, Answered, after, trace, final, Kept}
 use Rattle.rules.specs.Reckoning.{start, reckoned}
 use Rattle.rules.specs.Claim.{Safe}
@@ -56,7 +58,7 @@ pub data Ran : List ℕ → List Made → List Answered → Register → Type 0 
       → Ran a.0.now [] [] r.register
   ran_call : {text : List ℕ} {ms : List Made} {cs : List Answered} (κs : Lfts 1) (a : Dens κs call-kinds.ps) (out : Called)
       (x : AtExit (ended_of 1 call-kinds.ps call-kinds.r) κs) → Ran text ms cs a.0 → call-reads.Post κs a out x
-      → Ran text (ms ++ (made a.1.0 a.1.1.0.now ∷ [])) (cs ++ (answered a.1.0 out.answer ∷ [])) out.register
+      → Ran text (ms ++ (made a.1.0 a.1.1.0.now ∷ [])) (cs ++ (answered a.1.0 (answer_no out.answer) ∷ [])) out.register
 
 -- ---- what `call` requires always holds
 
@@ -92,7 +94,7 @@ unfolding trace
 ran_trace (ran_open κs a r x p) = refl
 ran_trace {text} (ran_call {ms = ms} {cs = cs} κs a out x h p) =
     let m : Made = made a.1.0 a.1.1.0.now in
-    let e : out.answer ≡ answer (final (open_board text) ms) m.seven m.room =
+    let e : (answer_no out.answer) ≡ answer (final (open_board text) ms) m.seven m.room =
     p.answered ∙ ap (λ (b : Board). answer b m.seven m.room) (ran_board h) in
     ap₂ (λ (l : List Answered) (k : ℕ). l ++ (answered m.seven k ∷ [])) (ran_trace h) e ∙ sym (trace_snoc (open_board text) ms m)
 
@@ -162,37 +164,37 @@ module _ (κs : Lfts 1) (a : Dens κs call-kinds.ps) (out : Called) (x : AtExit 
   room = length buffer
 
   -- demand 2: accepted if and only if no condition holds; refused with n if and only if condition n holds and none lower does
-  pub accepted_iff : (out.answer ≡ 0 → NoneHolds (conditions b s room)) × (NoneHolds (conditions b s room) → out.answer ≡ 0)
+  pub accepted_iff : ((answer_no out.answer) ≡ 0 → NoneHolds (conditions b s room)) × (NoneHolds (conditions b s room) → (answer_no out.answer) ≡ 0)
   accepted_iff = (λ e. accepted_none b s room (sym p.answered ∙ e), λ h. p.answered ∙ none_accepted b s room h)
 
-  pub refused_iff : (n : ℕ) → (0 < n → out.answer ≡ n → Refused n (conditions b s room)) × (Refused n (conditions b s room) → out.answer ≡ n)
+  pub refused_iff : (n : ℕ) → (0 < n → (answer_no out.answer) ≡ n → Refused n (conditions b s room)) × (Refused n (conditions b s room) → (answer_no out.answer) ≡ n)
   refused_iff n = (λ h e. refused_lowest b s room n (sym p.answered ∙ e) h, λ h. p.answered ∙ lowest_refused b s room n h)
 
   -- demand 1: what a call returns and writes is 01's; a refused one returns the register as it was, and authority number 0
   pub returns_same : Same (board_of out.register) (after b s room)
   returns_same = equal_same (board_of out.register) (after b s room) p.board
 
-  pub refused_keeps : (out.answer ≡ 0 → ⊥) → (board_of out.register ≡ b) × (out.number ≡ 0)
+  pub refused_keeps : ((answer_no out.answer) ≡ 0 → ⊥) → (board_of out.register ≡ b) × ((number_no out.answer) ≡ 0)
   refused_keeps h =
       let no : answer b s room ≡ 0 → ⊥ = λ z. h (p.answered ∙ z) in
       (p.board ∙ refused_same b s room no, p.number ∙ refused_none b s room no)
 
   pub short_stays : room < 55 → buffer' ≡ buffer
-  short_stays h = p.line ∙ short_line s out.answer out.number buffer h
+  short_stays h = p.line ∙ short_line s (answer_no out.answer) (number_no out.answer) buffer h
 
-  pub long_written : 55 ≤ room → buffer' ≡ journal_line s out.answer out.number ++ drop 55 buffer
-  long_written h = p.line ∙ long_line s out.answer out.number buffer h
+  pub long_written : 55 ≤ room → buffer' ≡ journal_line s (answer_no out.answer) (number_no out.answer) ++ drop 55 buffer
+  long_written h = p.line ∙ long_line s (answer_no out.answer) (number_no out.answer) buffer h
 
   -- order 6: a needed gate that is blocked can't be restored: no BOOK IN that would restore it is accepted
   pub not_restored : {text : List ℕ} {ms : List Made} {cs : List Answered} → Ran text ms cs a.0 → (n : ℕ) (g : GateNo) → Needed text cs n g.0
-      → (paper new : PaperNo) → named s ≡ BookIn g paper true new → out.answer ≡ 0 → ⊥
+      → (paper new : PaperNo) → named s ≡ Some (BookIn g paper true new) → (answer_no out.answer) ≡ 0 → ⊥
   not_restored {text} {ms} h n g k paper new is e =
       needed_not_restored text ms n g (needed_trace h k) s room paper new is (subst (λ (b : Board). answer b s room ≡ 0) (ran_board h) (sym p.answered ∙ e))
 
   -- orders 1 and 7: an authority that the call did not end is held after it, in force if it was, with the term that it had and, in force or unless the
   -- call recorded another with it, with the agreement that it had recorded
-  pub authority_kept : Kept a.0 → (o : Authority) → Member o b.authorities → ended_by (authority_no o) (answered s out.answer) ≡ false
-      → StaysIn (agreed_by (authority_no o) (answered s out.answer)) o (board_of out.register).authorities
+  pub authority_kept : Kept a.0 → (o : Authority) → Member o b.authorities → ended_by (authority_no o) (answered s (answer_no out.answer)) ≡ false
+      → StaysIn (agreed_by (authority_no o) (answered s (answer_no out.answer))) o (board_of out.register).authorities
   unfolding trace final
   authority_kept k o m e =
       let told : ended_by (authority_no o) (answered s (answer b s room)) ≡ false =

@@ -11,14 +11,15 @@ use mathlib.Core.Logic.{inl, inr}
 use Rattle.std.proofs.lemmas.List.{take_all}
 use lib.Dec.{eqb, leb}
 use lib.ListN.{length, take, drop, get_or, length-append, length-drop}
+use lib.Seq.{drop-drop}
 use Rattle.std.specs.Prelude.{Option, Some, None}
 use Rattle.lists.proofs.Tests.{told, lt_or_le}
 use Rattle.reading.specs.Reading.{read_column, first_column, Row, with_column, row_of, row_in}
 use Rattle.reading.proofs.Reading.{read_most}
 use Rattle.rules.specs.declared.Gate.{Gate}
-use Rattle.rules.specs.Board.{opened}
 use Rattle.rules.specs.Plan.{plan_widths, plan_line, plan_number, is_head, is_place, is_gate, gate_on, are_gates, gates_on, is_plan, open_board}
-use Rattle.plan.specs.Lines.{line_in, head_in, gate_in}
+use Rattle.plan.specs.declared.text.Plan.{Plan}
+use Rattle.plan.specs.Lines.{line_in, head_in, gate_in, PlanRead}
 
 -- ---- a number read of a row is at most `most`, and 0 where none is read
 first-most : (most w n : ℕ) (s : List ℕ) → first_column most w s ≡ Some n → n ≤ most
@@ -141,51 +142,60 @@ gate_some portions text ns t e h = let k = line_three text ns e in rw (k.whole, 
 
 -- ---- the lines of gates, i of them read
 module _ (portions count : ℕ) (text : List ℕ) where
-  pub record SoFar (i : ℕ) (gates : List Gate) (lines : List ℕ) : Type 0 where
+  pub record SoFar (i : ℕ) (gates : List Gate) : Type 0 where
+    pub long : length text ≡ 19 * count
     pub held : length gates ≡ i
-    pub left : length lines ≡ 19 * (count - i)
-    pub tested : are_gates portions count text ≡ are_gates portions (count - i) lines
-    pub read : gates_on count text ≡ gates ++ gates_on (count - i) lines
+    pub tested : are_gates portions count text ≡ are_gates portions (count - i) (drop (19 * i) text)
+    pub read : gates_on count text ≡ gates ++ gates_on (count - i) (drop (19 * i) text)
 
-  pub none_yet : length text ≡ 19 * count → SoFar 0 [] text
-  none_yet h = record { held = refl; left = rw (sub-zero, h); tested = rw sub-zero; read = rw sub-zero }
+  pub none_yet : length text ≡ 19 * count → SoFar 0 []
+  none_yet h = record { long = h; held = refl; tested = rw sub-zero; read = rw sub-zero }
 
-  module _ (i : ℕ) (gates : List Gate) (lines : List ℕ) (so_far : SoFar i gates lines) where
+  module _ (i : ℕ) (gates : List Gate) (so_far : SoFar i gates) where
     pub all_read : count ≤ i → (true ≡ are_gates portions count text) × (gates ≡ gates_on count text)
     unfolding are_gates gates_on
     all_read h =
         let none : count - i ≡ 0 = omega arith in
         (sym (so_far.tested ∙ rw none), sym (so_far.read ∙ rw (none, append-nil)))
 
+    -- line i: the code takes it as the text from its place on
     module _ (more : i < count) where
+      here : List ℕ
+      here = drop (19 * i) text
+
       next : count - i ≡ suc (count - (i + 1))
       next = omega arith
 
-      pub line_long : 19 ≤ length lines
-      line_long = omega (arith, so_far.left)
-
-      pub not_gate : None ≡ gate_in portions lines → false ≡ are_gates portions count text
-      unfolding are_gates gate_in
-      not_gate e = sym (so_far.tested ∙ rw (next, no_gate (is_gate portions lines) e))
+      pub not_gate : None ≡ gate_in portions (take (length text - 19 * i) (drop (19 * i) text)) → false ≡ are_gates portions count text
+      unfolding are_gates gate_in here
+      not_gate e = sym (so_far.tested ∙ rw (next, no_gate (is_gate portions here) (rw part_to_end at e)))
         where
-          no_gate : (t : Bool) → None ≡ cond t (Some (gate_on lines)) None → t ≡ false
+          no_gate : (t : Bool) → None ≡ cond t (Some (gate_on here)) None → t ≡ false
           no_gate true q = cc
           no_gate false q = refl
 
-      pub one_more : (g : Gate) → Some g ≡ gate_in portions lines → SoFar (i + 1) (gates ++ (g ∷ [])) (take (length lines - 19) (drop 19 lines))
-      unfolding are_gates gates_on gate_in
+      pub one_more : (g : Gate) → Some g ≡ gate_in portions (take (length text - 19 * i) (drop (19 * i) text)) → SoFar (i + 1) (gates ++ (g ∷ []))
+      unfolding are_gates gates_on gate_in here
       one_more g e =
-          let k = a_gate (is_gate portions lines) e in
+          let k = a_gate (is_gate portions here) (rw part_to_end at e) in
+          let behind : 19 * i + 19 ≡ 19 * (i + 1) = omega arith in
           record {
+            long = so_far.long;
             held = omega (arith, length-append gates (g ∷ []), so_far.held);
-            left = rw (part_to_end, length-drop) (omega (arith, so_far.left));
-            tested = so_far.tested ∙ rw (next, k.0, part_to_end);
-            read = so_far.read ∙ rw (next, part_to_end, ← k.1) (sym (append_assoc gates (g ∷ []) _));
+            tested = so_far.tested ∙ rw (next, k.0, drop-drop 19 (19 * i) text, behind);
+            read =
+                so_far.read ∙ rw (next, drop-drop 19 (19 * i) text, behind, ← k.1)
+                (sym (append_assoc gates (g ∷ []) (gates_on (count - (i + 1)) (drop (19 * (i + 1)) text))));
           }
         where
-          a_gate : (t : Bool) → Some g ≡ cond t (Some (gate_on lines)) None → (t ≡ true) × (g ≡ gate_on lines)
+          a_gate : (t : Bool) → Some g ≡ cond t (Some (gate_on here)) None → (t ≡ true) × (g ≡ gate_on here)
           a_gate true q = (refl, cc)
           a_gate false q = cc
+
+gates_count : (n : ℕ) (text : List ℕ) → length (gates_on n text) ≡ n
+unfolding gates_on
+gates_count zero text = refl
+gates_count (suc n) text = ap suc (gates_count n (drop 19 text))
 
 -- ---- the whole text
 abbrev both : ℕ → ℕ → Option (ℕ × ℕ)
@@ -237,16 +247,15 @@ module _ (text : List ℕ) (p n g : ℕ) (e : both p n ≡ head_in text) (count 
     pub plan_no_gates : false ≡ are_gates p g (take (length text - 19) (drop 19 text)) → false ≡ is_plan text
     plan_no_gates h = plan_is false h
 
-    pub plan_is_read : (gates : List Gate) → true ≡ are_gates p g (take (length text - 19) (drop 19 text))
-        → gates ≡ gates_on g (take (length text - 19) (drop 19 text))
-        → (true ≡ is_plan text) × ((opened p gates ≡ open_board text) × (p ≤ 64))
+    pub plan_is_read : (q : Plan) → q.portions ≡ p → true ≡ are_gates p g (take (length text - 19) (drop 19 text))
+        → q.gates.items ≡ gates_on g (take (length text - 19) (drop 19 text)) → PlanRead text (Some q)
     unfolding open_board is_head
-    plan_is_read gates h same =
+    plan_is_read q of h same =
         let all = plan_is true h in
-        let small : leb (plan_number 0 text) 64 ≡ true = search (told, known.head) in (
-          all,
-          (
-            rw (← all, known.portions, known.gates, same, part_to_end),
-            omega (arith, leb-true (plan_number 0 text) 64 small, known.portions),
-          ),
-        )
+        let small : leb (plan_number 0 text) 64 ≡ true = search (told, known.head) in
+        record {
+          some = all;
+          board = rw (← all, known.portions, known.gates, of, same, part_to_end);
+          portions = omega (arith, leb-true (plan_number 0 text) 64 small, known.portions);
+          gates = omega (arith, ap length same, gates_count g (take (length text - 19) (drop 19 text)), gates_asked.1);
+        }

@@ -68,10 +68,8 @@ fn read_gates(text: &[u8], portions: u16, count: usize) -> Option<ArrayVec<Gate,
     ensures gates { IfSome result (λ gates. gates.items ≡ gates_on count text.now) }
 {
     let mut gates = ArrayVec::new();
-    let mut lines = text;
-    for _line in 0..count {
-        gates.push(read_gate(lines, portions)?);
-        lines = &lines[19..];
+    for line in 0..count {
+        gates.push(read_gate(&text[19 * line..], portions)?);
     }
     Some(gates)
 }

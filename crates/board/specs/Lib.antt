@@ -1,2 +1,0 @@
--- What the contracts of this crate cite beside the rules.
-pub mod Steps

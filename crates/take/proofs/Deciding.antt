@@ -1,0 +1,189 @@
+-- A call in the steps of the code: what the decoded call says of the answer, and what a call with room for its line leaves. Assumes nothing.
+use Rattle.std.proofs.Common.{◌≡◌, refl, sym, ap, subst, ◌∙◌, ℕ, suc, ◌+◌, ◌≤◌, Bool, true, false, cond, ◌&&◌, List, ◌∷◌, length, eqb, eq-eqb, ne_eqb, arith, add-one, Option, Some, None, Result, Ok, Err}
+use Rattle.std.specs.Option.{ok_or}
+use Rattle.rules.specs.declared.Seven.{Seven}
+use Rattle.rules.specs.declared.Call.{Call}
+use Rattle.rules.specs.declared.refusal.Refusal as Refused
+use Rattle.rules.specs.declared.refusal.Refusal.TheVariants as Word
+use Rattle.rules.specs.declared.refusal.Refusal.TheVariants.{NoSuchCall, Field}
+use Rattle.rules.specs.declared.AuthorityNo.{AuthorityNo}
+use Rattle.rules.specs.declared.Call.TheVariants.{Request, Withdraw, Agree, Block, Unblock, Grant, Clear, Reoccupy, HandOver, Fulfil, Continue, Move, Passed, Term, Join, BookOut, BookIn}
+use Rattle.rules.specs.declared.Register.{Register}
+use Rattle.rules.specs.Board.{Board, board_of, with_stamp}
+use Rattle.rules.specs.Call.{is_call, in_ranges, named, decoded}
+use Rattle.rules.specs.Refusals.{◌when◌, lowest, early, own, conditions, answer}
+use Rattle.rules.specs.Effects.{effect}
+use Rattle.rules.specs.Answer.{refusal_no, answer_no, number_no, is_numbered}
+use Rattle.rules.specs.Step.{Kept, Bounds, Once, Starts, after, allotted}
+use Rattle.rules.proofs.Accepted.{Ranges, in_ranges_lem}
+use Rattle.rules.proofs.Answers.{refused_same, refused_none}
+use Rattle.rules.proofs.Once.{once_after}
+use Rattle.rules.proofs.Terms.{starts_after}
+use Rattle.take.specs.Taking.{with_room, TakePost}
+
+-- ---- what the decoded call says of the answer
+
+-- the call that the seven numbers are, with its answer where the buffer is long enough
+pub data Decoded (b : Board) (s : Seven) : Result Call Refused.Refusal → Type 0 where
+  faulty : (refusal : Refused.Refusal) → refusal_no refusal ≡ with_room b s → Decoded b s (Err refusal)
+  sound : (c : Call) → named s ≡ Some c → with_room b s ≡ lowest (4 when early b s ∷ own b s (Some c)) → Decoded b s (Ok c)
+
+-- a call whose number and fields are in their ranges
+named_cases : (b : Board) (s : Seven) (n : Option Call) → named s ≡ n → Ranges b n → with_room b s ≡ lowest (4 when early b s ∷ own b s n)
+    → Decoded b s (ok_or n NoSuchCall)
+named_cases b s None e k l = absurd k
+named_cases b s (Some c) e k l = sound c e l
+
+decoded_cases : (b : Board) (s : Seven) (x y : Bool) → is_call s.call ≡ x → in_ranges b.portions (length b.gates) s ≡ y
+    → Decoded b s (cond x (cond y (ok_or (named s) NoSuchCall) (Err Field)) (Err NoSuchCall))
+unfolding answer conditions lowest
+decoded_cases b s false y e f = faulty NoSuchCall (rw e)
+decoded_cases b s true false e f = faulty Field (rw (e, f))
+decoded_cases b s true true e f = named_cases b s (named s) refl (in_ranges_lem b s e f) (rw (e, f))
+
+pub is_decoded : (b : Board) (s : Seven) → Decoded b s (decoded b.portions (length b.gates) s)
+unfolding decoded
+is_decoded b s = decoded_cases b s (is_call s.call) (in_ranges b.portions (length b.gates) s) refl refl
+
+pub fault_answer : {b : Board} {s : Seven} {r : Result Call Refused.Refusal} {refusal : Refused.Refusal} → Decoded b s r → r ≡ Err refusal
+    → refusal_no refusal ≡ with_room b s
+fault_answer (faulty refusal e) is = ap (λ (x : Refused.Refusal). refusal_no x) (cc) ∙ e
+fault_answer (sound c n e) is = cc
+
+pub call_named : {b : Board} {s : Seven} {r : Result Call Refused.Refusal} {c : Call} → Decoded b s r → r ≡ Ok c → named s ≡ Some c
+call_named (faulty refusal e) is = cc
+call_named (sound c n e) is = cc
+
+pub early_answer : {b : Board} {s : Seven} {r : Result Call Refused.Refusal} {c : Call} → Decoded b s r → r ≡ Ok c → early b s ≡ true
+    → 4 ≡ with_room b s
+unfolding lowest
+early_answer (faulty refusal e) is l = cc
+early_answer (sound c n e) is l = sym (e ∙ rw l)
+
+pub own_answer : {b : Board} {s : Seven} {r : Result Call Refused.Refusal} {c : Call} → Decoded b s r → r ≡ Ok c → early b s ≡ false
+    → lowest (own b s (Some c)) ≡ with_room b s
+unfolding lowest
+own_answer (faulty refusal e) is l = cc
+own_answer {b} {s} {c = c} (sound d n e) is l =
+    let same : d ≡ c = cc in
+    subst (λ (x : Call). lowest (own b s (Some x)) ≡ with_room b s) same (sym (e ∙ rw l))
+
+-- ---- what a call with room for its line leaves
+
+-- no refusal has the number 0
+pub positive : (refusal : Refused.Refusal) → refusal_no refusal ≡ 0 → ⊥
+positive Word.ShortLine e = omega arith
+positive Word.NoSuchCall e = omega arith
+positive Word.Field e = omega arith
+positive Word.Clock e = omega arith
+positive Word.NotLive e = omega arith
+positive Word.Stage e = omega arith
+positive Word.Officer e = omega arith
+positive Word.AlreadySo e = omega arith
+positive Word.Full e = omega arith
+positive Word.NoFacility e = omega arith
+positive Word.Unprotected e = omega arith
+positive Word.Occupied e = omega arith
+positive Word.Overlap e = omega arith
+positive Word.Site e = omega arith
+positive Word.Assurance e = omega arith
+positive Word.StillNeeded e = omega arith
+positive Word.NoTrain e = omega arith
+positive Word.Blocked e = omega arith
+positive Word.NotPiloted e = omega arith
+positive Word.Plan e = omega arith
+positive Word.Notice e = omega arith
+positive Word.Term e = omega arith
+positive Word.ShortPage e = omega arith
+positive Word.Distance e = omega arith
+positive Word.BlockOn e = omega arith
+
+pub taken_refused : (r : Register) (s : Seven) (refusal : Refused.Refusal) → Kept r → refusal_no refusal ≡ with_room (board_of r) s
+    → TakePost r s r (Err refusal)
+taken_refused r s refusal k e =
+    let no : with_room (board_of r) s ≡ 0 → ⊥ = λ z. positive refusal (e ∙ z) in
+    record {
+      board = sym (refused_same (board_of r) s 55 no);
+      answered = e;
+      number = sym (refused_none (board_of r) s 55 no);
+      numbered = rw (ne_eqb (answer (board_of r) s 55) 0 no);
+      kept = k;
+    }
+
+-- the register with another stamp
+abbrev pub stamped : ℕ → ℕ → Register → Register
+stamped day time r = record {
+  portions = r.portions;
+  gates = r.gates;
+  bookings = r.bookings;
+  day = day;
+  time = time;
+  last = r.last;
+  blocks = r.blocks;
+  authorities = r.authorities;
+  trains = r.trains;
+}
+
+-- no call changes the portions
+portions_stay : (b : Board) (c : Call) → (effect b (Some c)).portions ≡ b.portions
+unfolding effect
+portions_stay b (Request kind first last officer) = refl
+portions_stay b (Withdraw n officer) = refl
+portions_stay b (Agree toa twa officer) = refl
+portions_stay b (Block g) = refl
+portions_stay b (Unblock g) = refl
+portions_stay b (Grant n officer) = refl
+portions_stay b (Clear n officer) = refl
+portions_stay b (Reoccupy n officer) = refl
+portions_stay b (HandOver n out into) = refl
+portions_stay b (Fulfil n officer assurances) = refl
+portions_stay b (Continue old new officer_old officer_new) = refl
+portions_stay b (Move t g n officer) = refl
+portions_stay b (Passed t) = refl
+portions_stay b (Term n day time length) = refl
+portions_stay b (Join twa toa officer distance) = refl
+portions_stay b (BookOut g paper) = refl
+portions_stay b (BookIn g paper certified new) = refl
+
+bounds_stay : (r out : Register) (c : Call) → Bounds r → board_of out ≡ effect (board_of r) (Some c) → out.portions ≤ 64
+unfolding board_of
+bounds_stay r out c k e = rw (ap (λ (b : Board). b.portions) e ∙ portions_stay (board_of r) c) k.portions
+
+pub taken_accepted : (r : Register) (s : Seven) (c : Call) (out : Register) (given : Result (Option AuthorityNo) Refused.Refusal) → Kept r
+    → named s ≡ Some c → with_room (board_of r) s ≡ 0 → board_of out ≡ effect (board_of r) (Some c) → answer_no given ≡ 0
+    → number_no given ≡ cond (eqb s.call 1) (suc (board_of r).last) 0 → is_numbered given ≡ eqb s.call 1
+    → TakePost r s (stamped s.day s.time out) given
+unfolding board_of
+taken_accepted r s c out given k is z e accepted number numbered =
+    let b : Board = board_of r in
+    let after_is : with_stamp s.day s.time (board_of out) ≡ after b s 55 = accepted_after b s (board_of out) z (e ∙ ap (effect b) (sym is)) in
+    record {
+      board = after_is;
+      answered = accepted ∙ sym z;
+      number = number_is b s z number;
+      numbered = rw (eq-eqb (answer b s 55) 0 z) numbered;
+      kept = record {
+        bounds = record { portions = bounds_stay r out c k.bounds e };
+        once = subst Once (sym after_is) (once_after b s 55 k.once);
+        starts = subst Starts (sym after_is) (starts_after b s 55 k.starts);
+      };
+    }
+  where
+    accepted_after : (b : Board) (s : Seven) (d : Board) → with_room b s ≡ 0 → d ≡ effect b (named s) → with_stamp s.day s.time d ≡ after b s 55
+    accepted_after b s d z e = unfold after in rw (eq-eqb (answer b s 55) 0 z, e)
+
+    number_is : (b : Board) (s : Seven) {n : ℕ} → with_room b s ≡ 0 → n ≡ cond (eqb s.call 1) (suc b.last) 0 → n ≡ allotted b s 55
+    number_is b s z e = unfold allotted in e ∙ rw (eq-eqb (answer b s 55) 0 z)
+
+-- ---- the number of an accepted call
+
+pub last_small : (r : Register) → Kept r → r.last ≤ 9999
+unfolding board_of
+last_small r k = k.once.last
+
+pub number_one : (r : Register) (s : Seven) → s.call ≡ 1 → r.last + 1 ≡ cond (eqb s.call 1) (suc (board_of r).last) 0
+unfolding board_of
+number_one r s e = rw (eq-eqb s.call 1 e, add-one r.last)
+
+pub number_none : (r : Register) (s : Seven) → (s.call ≡ 1 → ⊥) → 0 ≡ cond (eqb s.call 1) (suc (board_of r).last) 0
+number_none r s h = rw (ne_eqb s.call 1 h)
