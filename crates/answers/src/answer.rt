@@ -1,357 +1,288 @@
-// The answer to each call: 0, or the lowest refusal whose condition holds.
-ghost use Rattle.std.specs.Prelude.{◌≡◌};
-ghost use Rattle.rules.specs.Refusals.{lowest, request_refusals, withdraw_refusals, block_refusals, unblock_refusals, grant_refusals, clear_refusals, reoccupy_refusals, hand_over_refusals, fulfil_refusals, continue_refusals, own};
-ghost use Rattle.places.specs.Places.{HeadBounds, board_in};
+// The answer to each call: accepted, or the lowest refusal whose condition holds.
+ghost use Rattle.std.specs.Prelude.{◌≡◌, not, ◌||◌, ◌∷◌, [], eqb, Some};
+ghost use Rattle.rules.specs.Board.{board_of, is_in_force};
+ghost use Rattle.rules.specs.Refusals.{◌when◌, unprotected, occupied_beside, overlaps, outside_term};
+ghost use Rattle.rules.specs.Refusals.{lowest, request_refusals, withdraw_refusals, block_refusals, unblock_refusals};
+ghost use Rattle.rules.specs.Refusals.{grant_refusals, clear_refusals, reoccupy_refusals, hand_over_refusals};
+ghost use Rattle.rules.specs.Refusals.{fulfil_refusals, continue_refusals, own};
+ghost use Rattle.rules.specs.Answer.{answer_no};
 
-use crate::decide::{
-    decide_clear, decide_continue, decide_fulfil, decide_grant, decide_hand_over, decide_reoccupy,
-    decide_withdraw,
-};
 use crate::terms::answer_term;
 use agreements::{answer_agree, answer_join};
-use authorities::Found;
+use authorities::find;
 use bookings::{answer_book_in, answer_book_out, can_be_blocked};
-use conditions::{is_full, is_still_needed};
+use conditions::{
+    is_full, is_occupied, is_occupied_beside, is_outside_term, is_overlapping, is_still_needed,
+    is_unprotected,
+};
 use movements::{answer_move, answer_passed};
-use places::Head;
-use rules::refusal::{ALREADY_SO, FULL, NO_FACILITY, NOT_LIVE, STILL_NEEDED};
-use rules::{AuthorityNo, Call, GateNo, Seven};
+use rules::{Authority, AuthorityNo, Call, GateNo, Kind, Refusal, Register, Seven};
 
-fn answer_request(
-    head: Head,
-    gates: &[u16; 320],
-    authorities: &[u64; 256],
-    trains: &[u16; 128],
-) -> u16
-    requires { HeadBounds head }
-    ensures { result ≡ lowest (request_refusals (board_in head gates.now authorities.now trains.now)) }
+#[tactic(auto, unfolding(rules::specs::Board::board_of, rules::specs::Refusals::lowest))]
+fn answer_request(register: &Register) -> Result<(), Refusal>
+    ensures { answer_no result ≡ lowest (request_refusals (board_of register.now)) }
 {
-    if is_full(head, gates, authorities, trains) {
-        FULL
-    } else {
-        0
+    if is_full(register) {
+        return Err(Refusal::Full);
     }
+    Ok(())
 }
 
-fn answer_withdraw(
-    head: Head,
-    gates: &[u16; 320],
-    authorities: &[u64; 256],
-    trains: &[u16; 128],
-    n: AuthorityNo,
-    officer: u16,
-) -> u16
-    requires { HeadBounds head }
-    ensures { result ≡ lowest (withdraw_refusals (board_in head gates.now authorities.now trains.now) n.0 officer) }
+#[tactic(auto, using(authorities::proofs::AuthorityLaws::not_found, authorities::proofs::AuthorityLaws::found), unfolding(rules::specs::Board::board_of, rules::specs::Refusals::lowest, rules::specs::Refusals::not_officer))]
+fn answer_withdraw(register: &Register, n: AuthorityNo, officer: u16) -> Result<(), Refusal>
+    ensures { answer_no result ≡ lowest (withdraw_refusals (board_of register.now) n.0 officer) }
 {
-    let Found::Is(a) = authorities::find(authorities, head.live, n) else {
-        return NOT_LIVE;
-    };
-    decide_withdraw(a, officer)
-}
-
-fn answer_block(
-    head: Head,
-    gates: &[u16; 320],
-    authorities: &[u64; 256],
-    trains: &[u16; 128],
-    g: GateNo,
-) -> u16
-    requires { HeadBounds head }
-    ensures { result ≡ lowest (block_refusals (board_in head gates.now authorities.now trains.now) g.0) }
-{
-    if portions::has(head.blocks, g.0) {
-        return ALREADY_SO;
+    let a = find(&register.authorities, n).ok_or(Refusal::NotLive)?;
+    if a.in_force {
+        return Err(Refusal::Stage);
     }
-    if !can_be_blocked(head, gates, authorities, trains, g) {
-        return NO_FACILITY;
+    if a.officer != officer {
+        return Err(Refusal::Officer);
     }
-    0
+    Ok(())
 }
 
-fn answer_unblock(
-    head: Head,
-    gates: &[u16; 320],
-    authorities: &[u64; 256],
-    trains: &[u16; 128],
-    g: GateNo,
-) -> u16
-    requires { HeadBounds head }
-    ensures { result ≡ lowest (unblock_refusals (board_in head gates.now authorities.now trains.now) g.0) }
+#[tactic(auto, unfolding(rules::specs::Board::board_of, rules::specs::Refusals::lowest))]
+fn answer_block(register: &Register, g: GateNo) -> Result<(), Refusal>
+    ensures { answer_no result ≡ lowest (block_refusals (board_of register.now) g.0) }
 {
-    if !portions::has(head.blocks, g.0) {
-        return ALREADY_SO;
+    if portions::has(register.blocks, g.0) {
+        return Err(Refusal::AlreadySo);
     }
-    if is_still_needed(head, gates, authorities, trains, g) {
-        return STILL_NEEDED;
+    if !can_be_blocked(register, g) {
+        return Err(Refusal::NoFacility);
     }
-    0
+    Ok(())
 }
 
-fn answer_grant(
-    head: Head,
-    gates: &[u16; 320],
-    authorities: &[u64; 256],
-    trains: &[u16; 128],
-    s: Seven,
-    n: AuthorityNo,
-    officer: u16,
-) -> u16
-    requires { HeadBounds head }
-    ensures { result ≡ lowest (grant_refusals (board_in head gates.now authorities.now trains.now) s n.0 officer) }
+#[tactic(auto, unfolding(rules::specs::Board::board_of, rules::specs::Refusals::lowest))]
+fn answer_unblock(register: &Register, g: GateNo) -> Result<(), Refusal>
+    ensures { answer_no result ≡ lowest (unblock_refusals (board_of register.now) g.0) }
 {
-    let Found::Is(a) = authorities::find(authorities, head.live, n) else {
-        return NOT_LIVE;
-    };
-    decide_grant(head, gates, authorities, trains, s, a, officer)
+    if !portions::has(register.blocks, g.0) {
+        return Err(Refusal::AlreadySo);
+    }
+    if is_still_needed(register, g) {
+        return Err(Refusal::StillNeeded);
+    }
+    Ok(())
 }
 
-fn answer_clear(
-    head: Head,
-    gates: &[u16; 320],
-    authorities: &[u64; 256],
-    trains: &[u16; 128],
-    n: AuthorityNo,
-    officer: u16,
-) -> u16
-    requires { HeadBounds head }
-    ensures { result ≡ lowest (clear_refusals (board_in head gates.now authorities.now trains.now) n.0 officer) }
+#[tactic(auto, using(authorities::proofs::AuthorityLaws::not_found, authorities::proofs::AuthorityLaws::found), unfolding(rules::specs::Board::board_of, rules::specs::Refusals::lowest, rules::specs::Refusals::not_officer))]
+fn answer_grant(register: &Register, s: Seven, n: AuthorityNo, officer: u16) -> Result<(), Refusal>
+    ensures { answer_no result ≡ lowest (grant_refusals (board_of register.now) s n.0 officer) }
 {
-    let Found::Is(a) = authorities::find(authorities, head.live, n) else {
-        return NOT_LIVE;
-    };
-    decide_clear(a, officer)
+    let a = find(&register.authorities, n).ok_or(Refusal::NotLive)?;
+    if a.in_force {
+        return Err(Refusal::Stage);
+    }
+    if a.officer != officer {
+        return Err(Refusal::Officer);
+    }
+    if is_unprotected(register, a) {
+        return Err(Refusal::Unprotected);
+    }
+    if is_occupied(register, a) {
+        return Err(Refusal::Occupied);
+    }
+    if is_overlapping(register, AuthorityNo(0), a) {
+        return Err(Refusal::Overlap);
+    }
+    if is_outside_term(s, a) {
+        return Err(Refusal::Term);
+    }
+    Ok(())
 }
 
-fn answer_reoccupy(
-    head: Head,
-    gates: &[u16; 320],
-    authorities: &[u64; 256],
-    trains: &[u16; 128],
-    n: AuthorityNo,
-    officer: u16,
-) -> u16
-    requires { HeadBounds head }
-    ensures { result ≡ lowest (reoccupy_refusals (board_in head gates.now authorities.now trains.now) n.0 officer) }
+#[tactic(auto, using(authorities::proofs::AuthorityLaws::not_found, authorities::proofs::AuthorityLaws::found), unfolding(rules::specs::Board::board_of, rules::specs::Refusals::lowest, rules::specs::Refusals::not_officer))]
+fn answer_clear(register: &Register, n: AuthorityNo, officer: u16) -> Result<(), Refusal>
+    ensures { answer_no result ≡ lowest (clear_refusals (board_of register.now) n.0 officer) }
 {
-    let Found::Is(a) = authorities::find(authorities, head.live, n) else {
-        return NOT_LIVE;
-    };
-    decide_reoccupy(head, gates, authorities, trains, a, officer)
+    let a = find(&register.authorities, n).ok_or(Refusal::NotLive)?;
+    if !a.in_force {
+        return Err(Refusal::Stage);
+    }
+    if a.officer != officer {
+        return Err(Refusal::Officer);
+    }
+    if !a.workers_on {
+        return Err(Refusal::AlreadySo);
+    }
+    Ok(())
 }
 
-fn answer_hand_over(
-    head: Head,
-    gates: &[u16; 320],
-    authorities: &[u64; 256],
-    trains: &[u16; 128],
-    n: AuthorityNo,
-    out: u16,
-    into: u16,
-) -> u16
-    requires { HeadBounds head }
-    ensures { result ≡ lowest (hand_over_refusals (board_in head gates.now authorities.now trains.now) n.0 out into) }
+#[tactic(auto, using(authorities::proofs::AuthorityLaws::not_found, authorities::proofs::AuthorityLaws::found), unfolding(rules::specs::Board::board_of, rules::specs::Refusals::lowest, rules::specs::Refusals::not_officer))]
+fn answer_reoccupy(register: &Register, n: AuthorityNo, officer: u16) -> Result<(), Refusal>
+    ensures { answer_no result ≡ lowest (reoccupy_refusals (board_of register.now) n.0 officer) }
 {
-    let Found::Is(a) = authorities::find(authorities, head.live, n) else {
-        return NOT_LIVE;
-    };
-    decide_hand_over(a, out, into)
+    let a = find(&register.authorities, n).ok_or(Refusal::NotLive)?;
+    if !a.in_force {
+        return Err(Refusal::Stage);
+    }
+    if a.officer != officer {
+        return Err(Refusal::Officer);
+    }
+    if a.workers_on {
+        return Err(Refusal::AlreadySo);
+    }
+    if a.kind == Kind::Twa && is_occupied(register, a) {
+        return Err(Refusal::Occupied);
+    }
+    Ok(())
 }
 
+#[tactic(auto, using(authorities::proofs::AuthorityLaws::not_found, authorities::proofs::AuthorityLaws::found), unfolding(rules::specs::Board::board_of, rules::specs::Refusals::lowest, rules::specs::Refusals::not_officer))]
+fn answer_hand_over(register: &Register, n: AuthorityNo, out: u16, into: u16) -> Result<(), Refusal>
+    ensures { answer_no result ≡ lowest (hand_over_refusals (board_of register.now) n.0 out into) }
+{
+    let a = find(&register.authorities, n).ok_or(Refusal::NotLive)?;
+    if a.officer != out {
+        return Err(Refusal::Officer);
+    }
+    if out == into {
+        return Err(Refusal::AlreadySo);
+    }
+    Ok(())
+}
+
+#[tactic(auto, using(authorities::proofs::AuthorityLaws::not_found, authorities::proofs::AuthorityLaws::found), unfolding(rules::specs::Board::board_of, rules::specs::Refusals::lowest, rules::specs::Refusals::not_officer))]
 fn answer_fulfil(
-    head: Head,
-    gates: &[u16; 320],
-    authorities: &[u64; 256],
-    trains: &[u16; 128],
+    register: &Register,
     n: AuthorityNo,
     officer: u16,
     assurances: u16,
-) -> u16
-    requires { HeadBounds head }
-    ensures { result ≡ lowest (fulfil_refusals (board_in head gates.now authorities.now trains.now) n.0 officer assurances) }
+) -> Result<(), Refusal>
+    ensures { answer_no result ≡ lowest (fulfil_refusals (board_of register.now) n.0 officer assurances) }
 {
-    let Found::Is(a) = authorities::find(authorities, head.live, n) else {
-        return NOT_LIVE;
-    };
-    decide_fulfil(a, officer, assurances)
+    let a = find(&register.authorities, n).ok_or(Refusal::NotLive)?;
+    if !a.in_force {
+        return Err(Refusal::Stage);
+    }
+    if a.officer != officer {
+        return Err(Refusal::Officer);
+    }
+    if a.workers_on {
+        return Err(Refusal::Site);
+    }
+    if assurances != 7 {
+        return Err(Refusal::Assurance);
+    }
+    Ok(())
 }
 
+// 6, 7, 11, 12, 13 and 22 of CONTINUE, with the two found.
+// Kept: a function of its own. With the two searches in it the check stops at its limit of case splits.
+#[tactic(auto, using(authorities::proofs::Finding::refusals))]
+fn decide_continue(
+    register: &Register,
+    s: Seven,
+    old: AuthorityNo,
+    x: Authority,
+    y: Authority,
+    officer_old: u16,
+    officer_new: u16,
+) -> Result<(), Refusal>
+    ensures { answer_no result
+        ≡ lowest (6 when (not (is_in_force x) || is_in_force y)
+        ∷ 7 when (not (eqb x.officer officer_old) || not (eqb y.officer officer_new))
+        ∷ 11 when unprotected (board_of register.now) y
+        ∷ 12 when occupied_beside (board_of register.now) old.0 y
+        ∷ 13 when overlaps (board_of register.now) old.0 y
+        ∷ 22 when outside_term s y
+        ∷ []) }
+{
+    if !x.in_force | y.in_force {
+        return Err(Refusal::Stage);
+    }
+    if (x.officer != officer_old) | (y.officer != officer_new) {
+        return Err(Refusal::Officer);
+    }
+    if is_unprotected(register, y) {
+        return Err(Refusal::Unprotected);
+    }
+    if is_occupied_beside(register, old, y) {
+        return Err(Refusal::Occupied);
+    }
+    if is_overlapping(register, old, y) {
+        return Err(Refusal::Overlap);
+    }
+    if is_outside_term(s, y) {
+        return Err(Refusal::Term);
+    }
+    Ok(())
+}
+
+#[tactic(auto, using(authorities::proofs::AuthorityLaws::not_found, authorities::proofs::AuthorityLaws::found), unfolding(rules::specs::Board::board_of, rules::specs::Refusals::lowest, rules::specs::Refusals::not_officer))]
 fn answer_continue(
-    head: Head,
-    gates: &[u16; 320],
-    authorities: &[u64; 256],
-    trains: &[u16; 128],
+    register: &Register,
     s: Seven,
     old: AuthorityNo,
     new: AuthorityNo,
     officer_old: u16,
     officer_new: u16,
-) -> u16
-    requires { HeadBounds head }
-    ensures { result ≡ lowest (continue_refusals (board_in head gates.now authorities.now trains.now) s old.0 new.0 officer_old officer_new) }
+) -> Result<(), Refusal>
+    ensures { answer_no result ≡ lowest (continue_refusals (board_of register.now) s old.0 new.0 officer_old officer_new) }
 {
-    let Found::Is(x) = authorities::find(authorities, head.live, old) else {
-        return NOT_LIVE;
-    };
-    let Found::Is(y) = authorities::find(authorities, head.live, new) else {
-        return NOT_LIVE;
-    };
-    decide_continue(
-        head,
-        gates,
-        authorities,
-        trains,
-        s,
-        old,
-        x,
-        y,
-        officer_old,
-        officer_new,
-    )
+    let x = find(&register.authorities, old).ok_or(Refusal::NotLive)?;
+    let y = find(&register.authorities, new).ok_or(Refusal::NotLive)?;
+    decide_continue(register, s, old, x, y, officer_old, officer_new)
 }
 
-// The lowest of the call's own refusals, from 5 on, whose condition holds, or 0. `s` has the call's stamp.
-pub fn answer_of(
-    head: Head,
-    gates: &[u16; 320],
-    authorities: &[u64; 256],
-    trains: &[u16; 128],
-    s: Seven,
-    c: Call,
-) -> u16
-    requires { HeadBounds head }
-    ensures { result ≡ lowest (own (board_in head gates.now authorities.now trains.now) s c) }
+// The lowest of the call's own refusals, from 5 on, whose condition holds, or none. `s` has the call's stamp.
+#[tactic(auto, unfolding(rules::specs::Refusals::own))]
+pub fn answer_of(register: &Register, s: Seven, c: Call) -> Result<(), Refusal>
+    ensures { answer_no result ≡ lowest (own (board_of register.now) s (Some c)) }
 {
     match c {
-        Call::NoSuchCall => 0,
-        Call::BadField => 0,
-        Call::Request {
-            kind: _,
-            first: _,
-            last: _,
-            officer: _,
-        } => answer_request(head, gates, authorities, trains),
-        Call::Withdraw { authority, officer } => answer_withdraw(
-            head,
-            gates,
-            authorities,
-            trains,
-            authority,
-            officer,
-        ),
-        Call::Agree { toa, twa, officer } => answer_agree(
-            head,
-            gates,
-            authorities,
-            trains,
-            toa,
-            twa,
-            officer,
-        ),
-        Call::Block { gate } => answer_block(head, gates, authorities, trains, gate),
-        Call::Unblock { gate } => answer_unblock(head, gates, authorities, trains, gate),
-        Call::Grant { authority, officer } => answer_grant(
-            head,
-            gates,
-            authorities,
-            trains,
-            s,
-            authority,
-            officer,
-        ),
-        Call::Clear { authority, officer } => answer_clear(
-            head,
-            gates,
-            authorities,
-            trains,
-            authority,
-            officer,
-        ),
-        Call::Reoccupy { authority, officer } => answer_reoccupy(
-            head,
-            gates,
-            authorities,
-            trains,
-            authority,
-            officer,
-        ),
+        Call::Request { .. } => answer_request(register),
+        Call::Withdraw { authority, officer } => answer_withdraw(register, authority, officer),
+        Call::Agree { toa, twa, officer } => answer_agree(register, toa, twa, officer),
+        Call::Block { gate } => answer_block(register, gate),
+        Call::Unblock { gate } => answer_unblock(register, gate),
+        Call::Grant { authority, officer } => answer_grant(register, s, authority, officer),
+        Call::Clear { authority, officer } => answer_clear(register, authority, officer),
+        Call::Reoccupy { authority, officer } => answer_reoccupy(register, authority, officer),
         Call::HandOver {
             authority,
             out,
             into,
-        } => answer_hand_over(head, gates, authorities, trains, authority, out, into),
+        } => answer_hand_over(register, authority, out, into),
         Call::Fulfil {
             authority,
             officer,
             assurances,
-        } => answer_fulfil(
-            head,
-            gates,
-            authorities,
-            trains,
-            authority,
-            officer,
-            assurances,
-        ),
+        } => { answer_fulfil(register, authority, officer, assurances) }
         Call::Continue {
             old,
             new,
             officer_old,
             officer_new,
-        } => answer_continue(
-            head,
-            gates,
-            authorities,
-            trains,
-            s,
-            old,
-            new,
-            officer_old,
-            officer_new,
-        ),
+        } => { answer_continue(register, s, old, new, officer_old, officer_new) }
         Call::Move {
             train,
             gate,
             authority,
             officer,
-        } => answer_move(
-            head,
-            gates,
-            authorities,
-            trains,
-            train,
-            gate,
-            authority,
-            officer,
-        ),
-        Call::Passed { train } => answer_passed(head, gates, authorities, trains, train),
+        } => { answer_move(register, train, gate, authority, officer) }
+        Call::Passed { train } => answer_passed(register, train),
         Call::Term {
             authority,
             day,
             time,
-            length: _,
-        } => answer_term(head, gates, authorities, trains, s, authority, day, time),
+            ..
+        } => answer_term(register, s, authority, day, time),
         Call::Join {
             twa,
             toa,
             officer,
             distance,
-        } => answer_join(
-            head,
-            gates,
-            authorities,
-            trains,
-            twa,
-            toa,
-            officer,
-            distance,
-        ),
-        Call::BookOut { gate, paper: _ } => answer_book_out(head, gates, authorities, trains, gate),
+        } => { answer_join(register, twa, toa, officer, distance) }
+        Call::BookOut { gate, .. } => answer_book_out(register, gate),
         Call::BookIn {
             gate,
             paper,
             certified,
-            new: _,
-        } => answer_book_in(head, gates, authorities, trains, gate, paper, certified),
+            ..
+        } => answer_book_in(register, gate, paper, certified),
     }
 }

@@ -1,8 +1,7 @@
-// A call's own answer on the board in the lent arrays: 0, or the lowest refusal from 5 on whose condition holds.
+// A call's own answer on the register: accepted, or the lowest refusal from 5 on whose condition holds.
 #![tactic(auto)]
 
 mod answer;
-mod decide;
 mod terms;
 
 pub use answer::answer_of;

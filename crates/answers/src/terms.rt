@@ -1,49 +1,34 @@
 // The answer to TERM (02, order 1).
-ghost use Rattle.std.specs.Prelude.{◌≡◌, ◌∷◌, []};
-ghost use Rattle.rules.specs.Board.{has_term};
+ghost use Rattle.std.specs.Prelude.{◌≡◌};
+ghost use Rattle.rules.specs.Board.{board_of};
 ghost use Rattle.rules.specs.Call.{minute_of};
-ghost use Rattle.rules.specs.Refusals.{◌when◌, lowest, not_pending_lpa, too_soon, term_refusals};
-ghost use Rattle.places.specs.Places.{HeadBounds, board_in};
+ghost use Rattle.rules.specs.Refusals.{lowest, term_refusals};
+ghost use Rattle.rules.specs.Answer.{answer_no};
 
-use authorities::Found;
+use authorities::find;
 use conditions::is_too_soon;
-use places::Head;
-use rules::refusal::{ALREADY_SO, NOT_LIVE, NOTICE, STAGE};
-use rules::{Authority, AuthorityNo, Seven};
+use rules::{AuthorityNo, Kind, Refusal, Register, Seven};
 use stamps::minute_of;
 
-// 6, 8 and 21 of TERM, with the authority found.
-fn decide_term(s: Seven, a: Authority, start: u32) -> u16
-    ensures { result ≡ lowest (6 when not_pending_lpa a ∷ 8 when has_term a ∷ 21 when too_soon s start ∷ []) }
-{
-    let kind = a.kind;
-    if !(kinds::is_lpa(kind) & !a.in_force) {
-        return STAGE;
-    }
-    if a.length != 0 {
-        return ALREADY_SO;
-    }
-    if is_too_soon(s, start) {
-        return NOTICE;
-    }
-    0
-}
-
+#[tactic(auto, using(authorities::proofs::AuthorityLaws::not_found, authorities::proofs::AuthorityLaws::found), unfolding(rules::specs::Board::board_of, rules::specs::Refusals::lowest, rules::specs::Refusals::not_pending_lpa))]
 pub fn answer_term(
-    head: Head,
-    gates: &[u16; 320],
-    authorities: &[u64; 256],
-    trains: &[u16; 128],
+    register: &Register,
     s: Seven,
     n: AuthorityNo,
     day: u16,
     time: u16,
-) -> u16
-    requires { HeadBounds head }
-    ensures { result ≡ lowest (term_refusals (board_in head gates.now authorities.now trains.now) s n.0 (minute_of day time)) }
+) -> Result<(), Refusal>
+    ensures { answer_no result ≡ lowest (term_refusals (board_of register.now) s n.0 (minute_of day time)) }
 {
-    let Found::Is(a) = authorities::find(authorities, head.live, n) else {
-        return NOT_LIVE;
-    };
-    decide_term(s, a, minute_of(day, time))
+    let a = find(&register.authorities, n).ok_or(Refusal::NotLive)?;
+    if a.kind != Kind::Lpa || a.in_force {
+        return Err(Refusal::Stage);
+    }
+    if a.length != 0 {
+        return Err(Refusal::AlreadySo);
+    }
+    if is_too_soon(s, minute_of(day, time)) {
+        return Err(Refusal::Notice);
+    }
+    Ok(())
 }

@@ -25,9 +25,9 @@ pub opened_post : (text : List ℕ) (p : Read.Plan) (r : Register) → PlanRead 
     → OpenPost text (record { register = r; answer = Ok tt })
 unfolding open_answer
 opened_post text p r h e = record {
-  board = e ∙ h.plan.0;
+  board = e ∙ h.board;
   answered = rw (← h.some);
-  kept = kept_fresh r p.portions p.gates.items e h.plan.1;
+  kept = kept_fresh r p.portions p.gates.items e h.portions;
 }
 
 pub refused_post : (text : List ℕ) (r : Register) → PlanRead text None → board_of r ≡ opened 0 []

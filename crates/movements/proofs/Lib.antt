@@ -1,0 +1,2 @@
+-- The laws of MOVE's flags that its answer cites.
+mod Flags
