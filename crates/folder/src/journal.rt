@@ -18,7 +18,7 @@ const LINE_SIZE: usize = 55;
 const PIECE_LINES: usize = 8192;
 
 // The longest plan has 65 lines of 19 bytes; one byte more shows a text that is too long.
-const PLAN_SIZE: usize = 65 * 19 + 1;
+pub const PLAN_SIZE: usize = 65 * 19 + 1;
 
 // A loop has to end, and nothing says that a file does, so the pieces are counted; no file is so long that the count is reached.
 const MOST_PIECES: u64 = 1 << 50;

@@ -11,6 +11,6 @@ mod page;
 
 pub use failure::{Failure, say_failure};
 pub use input::{Filled, read_file};
-pub use journal::print_journal;
+pub use journal::{PLAN_SIZE, print_journal};
 pub use output::{print, print_number};
 pub use page::{print_page, print_sheet};
