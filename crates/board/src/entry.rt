@@ -8,16 +8,20 @@ ghost use Rattle.rules.specs.Step.{Kept, OpenPost, CallPost};
 use arrayvec::ArrayVec;
 use plan::{Plan, read_plan};
 use rules::{
-    Answer, Booking, Called, Opened, Refusal, Register, Seven, allotted_number, answer_number,
+    Answer, Booking, Called, Opened, PaperNo, Refusal, Register, Seven, allotted_number, answer_number,
 };
 
 // A freshly opened board: no gate of it is out.
 fn fresh(plan: Plan) -> Register
     ensures { board_of result ≡ opened plan.portions plan.gates.items }
 {
+    let none = Booking {
+        paper: PaperNo(0),
+        replaced: PaperNo(0),
+    };
     let mut bookings = ArrayVec::new();
     for _gate in 0..plan.gates.len() {
-        bookings.push(Booking::default());
+        bookings.push(none);
     }
     Register {
         portions: plan.portions,

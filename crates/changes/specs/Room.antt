@@ -1,6 +1,6 @@
 -- The room that an effect asks for. Assumes nothing.
-use Rattle.std.specs.Prelude.{◌≡◌, ◌<◌, true, length}
-use Rattle.rules.specs.Board.{Board, is_outside, gate_at}
+use Rattle.std.specs.Prelude.{◌<◌, length}
+use Rattle.rules.specs.Board.{Board}
 
 -- a REQUEST: a place for one more authority, and a number for it
 pub record HasPlace (b : Board) : Type 0 where

@@ -1,6 +1,8 @@
 -- A call in the steps of the code: what the decoded call says of the answer, and what a call with room for its line leaves. Assumes nothing.
 use Rattle.std.proofs.Common.{◌≡◌, refl, sym, ap, subst, ◌∙◌, ℕ, suc, ◌+◌, ◌≤◌, Bool, true, false, cond, ◌&&◌, List, ◌∷◌, length, eqb, eq-eqb, ne_eqb, arith, add-one, Option, Some, None, Result, Ok, Err}
 use Rattle.std.specs.Option.{ok_or}
+use Rattle.std.specs.Result.{IsErrAnd}
+use Rattle.std.proofs.lemmas.Result.{err_from_is_err_and}
 use Rattle.rules.specs.declared.Seven.{Seven}
 use Rattle.rules.specs.declared.Call.{Call}
 use Rattle.rules.specs.declared.refusal.Refusal as Refused
@@ -19,7 +21,7 @@ use Rattle.rules.proofs.Accepted.{Ranges, in_ranges_lem}
 use Rattle.rules.proofs.Answers.{refused_same, refused_none}
 use Rattle.rules.proofs.Once.{once_after}
 use Rattle.rules.proofs.Terms.{starts_after}
-use Rattle.take.specs.Taking.{with_room, TakePost}
+use Rattle.take.specs.Taking.{with_room, Allowed, TakePost}
 
 -- ---- what the decoded call says of the answer
 
@@ -41,9 +43,12 @@ decoded_cases b s false y e f = faulty NoSuchCall (rw e)
 decoded_cases b s true false e f = faulty Field (rw (e, f))
 decoded_cases b s true true e f = named_cases b s (named s) refl (in_ranges_lem b s e f) (rw (e, f))
 
-pub is_decoded : (b : Board) (s : Seven) → Decoded b s (decoded b.portions (length b.gates) s)
-unfolding decoded
-is_decoded b s = decoded_cases b s (is_call s.call) (in_ranges b.portions (length b.gates) s) refl refl
+pub is_decoded : (r : Register) (s : Seven) {n : ℕ} {d : Result Call Refused.Refusal} → d ≡ decoded r.portions n s → n ≡ length r.gates.items
+    → Decoded (board_of r) s d
+unfolding decoded board_of
+is_decoded r s e l =
+    let b = board_of r in
+    rw (e, l) (decoded_cases b s (is_call s.call) (in_ranges b.portions (length b.gates) s) refl refl)
 
 pub fault_answer : {b : Board} {s : Seven} {r : Result Call Refused.Refusal} {refusal : Refused.Refusal} → Decoded b s r → r ≡ Err refusal
     → refusal_no refusal ≡ with_room b s
@@ -67,6 +72,15 @@ own_answer (faulty refusal e) is l = cc
 own_answer {b} {s} {c = c} (sound d n e) is l =
     let same : d ≡ c = cc in
     subst (λ (x : Call). lowest (own b s (Some x)) ≡ with_room b s) same (sym (e ∙ rw l))
+
+-- a refusal that `?` gives back
+pub allowed_none : {b : Board} {s : Seven} (e : Refused.Refusal) (r : Result Call Refused.Refusal) → refusal_no e ≡ with_room b s
+    → IsErrAnd r (λ x. x ≡ e) → Allowed b s r
+allowed_none e r k gives = let p = err_from_is_err_and r gives in record { answered = rw (p.1, p.2) k; named = rw p.1 tt; free = rw p.1 tt }
+
+pub allowed_one : {b : Board} {s : Seven} {d : Result Call Refused.Refusal} {c : Call} → Decoded b s d → d ≡ Ok c → early b s ≡ false
+    → 0 ≡ lowest (own b s (Some c)) → Allowed b s (Ok c)
+allowed_one k is l free = record { answered = free ∙ own_answer k is l; named = call_named k is; free = sym free }
 
 -- ---- what a call with room for its line leaves
 
@@ -109,6 +123,10 @@ taken_refused r s refusal k e =
       numbered = rw (ne_eqb (answer (board_of r) s 55) 0 no);
       kept = k;
     }
+
+pub taken_none : {s : Seven} (e : Refused.Refusal) (r : Register) (given : Result (Option AuthorityNo) Refused.Refusal) → Kept r
+    → refusal_no e ≡ with_room (board_of r) s → IsErrAnd given (λ x. x ≡ e) → TakePost r s r given
+taken_none e r given k h gives = let p = err_from_is_err_and given gives in rw (p.1, p.2) (taken_refused r _ _ k h)
 
 -- the register with another stamp
 abbrev pub stamped : ℕ → ℕ → Register → Register

@@ -7,7 +7,7 @@ use Rattle.rules.specs.declared.refusal.Refusal.{Refusal}
 use Rattle.rules.specs.declared.Register.{Register}
 use Rattle.rules.specs.Board.{Board, board_of}
 use Rattle.rules.specs.Call.{named}
-use Rattle.rules.specs.Refusals.{answer}
+use Rattle.rules.specs.Refusals.{lowest, own, answer}
 use Rattle.rules.specs.Answer.{answer_no, number_no, is_numbered}
 use Rattle.rules.specs.Step.{Kept, after, allotted}
 
@@ -15,10 +15,11 @@ use Rattle.rules.specs.Step.{Kept, after, allotted}
 abbrev pub with_room : Board → Seven → ℕ
 with_room b s = answer b s 55
 
--- the answer to a call, and, where it is accepted, the call itself
+-- the answer to a call, and, where it is accepted, the call itself, which none of its own conditions refuses
 pub record Allowed (b : Board) (s : Seven) (r : Result Call Refusal) : Type 0 where
   pub answered : answer_no r ≡ with_room b s
   pub named : IfOk r (λ c. named s ≡ Some c)
+  pub free : IfOk r (λ c. lowest (own b s (Some c)) ≡ 0)
 
 -- a call with room for its line (55 bytes): the register after it, and what is answered
 pub record TakePost (before : Register) (s : Seven) (register : Register) (given : Result (Option AuthorityNo) Refusal) : Type 0 where
