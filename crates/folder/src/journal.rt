@@ -24,13 +24,13 @@ pub const PLAN_SIZE: usize = 65 * 19 + 1;
 const MOST_PIECES: u64 = 1 << 50;
 
 // Runs the calls of the file, piece by piece, and hands the journal lines of each on.
-fn run_pieces<F: Read, L: Fn(&[u8]) -> Result<(), Failure<'static>>>(
+fn run_pieces<'a, F: Read, L: Fn(&[u8]) -> Result<(), Failure<'a>>>(
     opened: Register,
     file: &mut F,
     text: &mut [u8],
     out: &mut [u8],
     on_lines: &L,
-) -> Result<Register, Failure<'static>>
+) -> Result<Register, Failure<'a>>
     requires opened { Kept opened × (length text.old ≡ 352256) × (length out.old ≡ 450560) }
     requires on_lines { L.IsAlwaysCallable on_lines.now }
     ensures { IfOk result (λ register. Kept register) }
@@ -54,27 +54,40 @@ fn run_pieces<F: Read, L: Fn(&[u8]) -> Result<(), Failure<'static>>>(
     Err(Failure::Endless)
 }
 
+// Room for the calls of a piece, and for their journal. The `ensures` gives only the length, which lending the array as a slice needs.
+fn room_for_calls() -> [u8; PIECE_LINES * CALL_SIZE]
+    ensures { 352256 ≡ length result }
+{
+    [0; PIECE_LINES * CALL_SIZE]
+}
+
+fn room_for_journal() -> [u8; PIECE_LINES * LINE_SIZE]
+    ensures { 450560 ≡ length result }
+{
+    [0; PIECE_LINES * LINE_SIZE]
+}
+
 // Runs the calls of the file.
-fn run_calls<F: Read, L: Fn(&[u8]) -> Result<(), Failure<'static>>>(
+fn run_calls<'a, F: Read, L: Fn(&[u8]) -> Result<(), Failure<'a>>>(
     opened: Register,
     file: &mut F,
     on_lines: &L,
-) -> Result<Register, Failure<'static>>
+) -> Result<Register, Failure<'a>>
     requires opened { Kept opened }
     requires on_lines { L.IsAlwaysCallable on_lines.now }
     ensures { IfOk result (λ register. Kept register) }
 {
-    let mut text = [0; PIECE_LINES * CALL_SIZE];
-    let mut out = [0; PIECE_LINES * LINE_SIZE];
+    let mut text = room_for_calls();
+    let mut out = room_for_journal();
     run_pieces(opened, file, &mut text, &mut out, on_lines)
 }
 
 // Makes the calls of the file `calls` on the board of the file `plan`, and hands their journal lines on as they come. Where the plan is refused there
 // is no register: its answer is printed.
-pub fn run_folder<R: Files + Print, L: Fn(&[u8]) -> Result<(), Failure<'static>>>(
+pub fn run_folder<'a, R: Files + Print, L: Fn(&[u8]) -> Result<(), Failure<'a>>>(
     rt: &R,
     on_lines: &L,
-) -> Result<Option<Register>, Failure<'static>>
+) -> Result<Option<Register>, Failure<'a>>
     requires { L.IsAlwaysCallable on_lines.now }
     ensures { IfOk result (λ ran. IfSome ran (λ register. Kept register)) }
 {
