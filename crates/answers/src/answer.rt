@@ -1,4 +1,6 @@
 // The answer to each call: accepted, or the lowest refusal whose condition holds.
+#![tactic(auto, using(authorities::proofs::AuthorityLaws::not_found, authorities::proofs::AuthorityLaws::found), unfolding(rules::specs::Board::board_of, rules::specs::Refusals::lowest, rules::specs::Refusals::not_officer))]
+
 ghost use Rattle.std.specs.Prelude.{◌≡◌, not, ◌||◌, ◌∷◌, [], eqb, Some};
 ghost use Rattle.rules.specs.Board.{board_of, is_in_force};
 ghost use Rattle.rules.specs.Refusals.{◌when◌, unprotected, occupied_beside, overlaps, outside_term};
@@ -18,7 +20,6 @@ use conditions::{
 use movements::{answer_move, answer_passed};
 use rules::{Authority, AuthorityNo, Call, GateNo, Kind, Refusal, Register, Seven};
 
-#[tactic(auto, unfolding(rules::specs::Board::board_of, rules::specs::Refusals::lowest))]
 fn answer_request(register: &Register) -> Result<(), Refusal>
     ensures { answer_no result ≡ lowest (request_refusals (board_of register.now)) }
 {
@@ -28,7 +29,6 @@ fn answer_request(register: &Register) -> Result<(), Refusal>
     Ok(())
 }
 
-#[tactic(auto, using(authorities::proofs::AuthorityLaws::not_found, authorities::proofs::AuthorityLaws::found), unfolding(rules::specs::Board::board_of, rules::specs::Refusals::lowest, rules::specs::Refusals::not_officer))]
 fn answer_withdraw(register: &Register, n: AuthorityNo, officer: u16) -> Result<(), Refusal>
     ensures { answer_no result ≡ lowest (withdraw_refusals (board_of register.now) n.0 officer) }
 {
@@ -42,7 +42,6 @@ fn answer_withdraw(register: &Register, n: AuthorityNo, officer: u16) -> Result<
     Ok(())
 }
 
-#[tactic(auto, unfolding(rules::specs::Board::board_of, rules::specs::Refusals::lowest))]
 fn answer_block(register: &Register, g: GateNo) -> Result<(), Refusal>
     ensures { answer_no result ≡ lowest (block_refusals (board_of register.now) g.0) }
 {
@@ -55,7 +54,6 @@ fn answer_block(register: &Register, g: GateNo) -> Result<(), Refusal>
     Ok(())
 }
 
-#[tactic(auto, unfolding(rules::specs::Board::board_of, rules::specs::Refusals::lowest))]
 fn answer_unblock(register: &Register, g: GateNo) -> Result<(), Refusal>
     ensures { answer_no result ≡ lowest (unblock_refusals (board_of register.now) g.0) }
 {
@@ -68,7 +66,6 @@ fn answer_unblock(register: &Register, g: GateNo) -> Result<(), Refusal>
     Ok(())
 }
 
-#[tactic(auto, using(authorities::proofs::AuthorityLaws::not_found, authorities::proofs::AuthorityLaws::found), unfolding(rules::specs::Board::board_of, rules::specs::Refusals::lowest, rules::specs::Refusals::not_officer))]
 fn answer_grant(register: &Register, s: Seven, n: AuthorityNo, officer: u16) -> Result<(), Refusal>
     ensures { answer_no result ≡ lowest (grant_refusals (board_of register.now) s n.0 officer) }
 {
@@ -94,7 +91,6 @@ fn answer_grant(register: &Register, s: Seven, n: AuthorityNo, officer: u16) -> 
     Ok(())
 }
 
-#[tactic(auto, using(authorities::proofs::AuthorityLaws::not_found, authorities::proofs::AuthorityLaws::found), unfolding(rules::specs::Board::board_of, rules::specs::Refusals::lowest, rules::specs::Refusals::not_officer))]
 fn answer_clear(register: &Register, n: AuthorityNo, officer: u16) -> Result<(), Refusal>
     ensures { answer_no result ≡ lowest (clear_refusals (board_of register.now) n.0 officer) }
 {
@@ -111,7 +107,6 @@ fn answer_clear(register: &Register, n: AuthorityNo, officer: u16) -> Result<(),
     Ok(())
 }
 
-#[tactic(auto, using(authorities::proofs::AuthorityLaws::not_found, authorities::proofs::AuthorityLaws::found), unfolding(rules::specs::Board::board_of, rules::specs::Refusals::lowest, rules::specs::Refusals::not_officer))]
 fn answer_reoccupy(register: &Register, n: AuthorityNo, officer: u16) -> Result<(), Refusal>
     ensures { answer_no result ≡ lowest (reoccupy_refusals (board_of register.now) n.0 officer) }
 {
@@ -131,7 +126,6 @@ fn answer_reoccupy(register: &Register, n: AuthorityNo, officer: u16) -> Result<
     Ok(())
 }
 
-#[tactic(auto, using(authorities::proofs::AuthorityLaws::not_found, authorities::proofs::AuthorityLaws::found), unfolding(rules::specs::Board::board_of, rules::specs::Refusals::lowest, rules::specs::Refusals::not_officer))]
 fn answer_hand_over(register: &Register, n: AuthorityNo, out: u16, into: u16) -> Result<(), Refusal>
     ensures { answer_no result ≡ lowest (hand_over_refusals (board_of register.now) n.0 out into) }
 {
@@ -145,7 +139,6 @@ fn answer_hand_over(register: &Register, n: AuthorityNo, out: u16, into: u16) ->
     Ok(())
 }
 
-#[tactic(auto, using(authorities::proofs::AuthorityLaws::not_found, authorities::proofs::AuthorityLaws::found), unfolding(rules::specs::Board::board_of, rules::specs::Refusals::lowest, rules::specs::Refusals::not_officer))]
 fn answer_fulfil(
     register: &Register,
     n: AuthorityNo,
@@ -191,10 +184,10 @@ fn decide_continue(
         ∷ 22 when outside_term s y
         ∷ []) }
 {
-    if !x.in_force | y.in_force {
+    if !x.in_force || y.in_force {
         return Err(Refusal::Stage);
     }
-    if (x.officer != officer_old) | (y.officer != officer_new) {
+    if x.officer != officer_old || y.officer != officer_new {
         return Err(Refusal::Officer);
     }
     if is_unprotected(register, y) {
@@ -212,7 +205,6 @@ fn decide_continue(
     Ok(())
 }
 
-#[tactic(auto, using(authorities::proofs::AuthorityLaws::not_found, authorities::proofs::AuthorityLaws::found), unfolding(rules::specs::Board::board_of, rules::specs::Refusals::lowest, rules::specs::Refusals::not_officer))]
 fn answer_continue(
     register: &Register,
     s: Seven,
@@ -221,7 +213,8 @@ fn answer_continue(
     officer_old: u16,
     officer_new: u16,
 ) -> Result<(), Refusal>
-    ensures { answer_no result ≡ lowest (continue_refusals (board_of register.now) s old.0 new.0 officer_old officer_new) }
+    ensures { answer_no result
+        ≡ lowest (continue_refusals (board_of register.now) s old.0 new.0 officer_old officer_new) }
 {
     let x = find(&register.authorities, old).ok_or(Refusal::NotLive)?;
     let y = find(&register.authorities, new).ok_or(Refusal::NotLive)?;
@@ -251,19 +244,19 @@ pub fn answer_of(register: &Register, s: Seven, c: Call) -> Result<(), Refusal>
             authority,
             officer,
             assurances,
-        } => { answer_fulfil(register, authority, officer, assurances) }
+        } => answer_fulfil(register, authority, officer, assurances),
         Call::Continue {
             old,
             new,
             officer_old,
             officer_new,
-        } => { answer_continue(register, s, old, new, officer_old, officer_new) }
+        } => answer_continue(register, s, old, new, officer_old, officer_new),
         Call::Move {
             train,
             gate,
             authority,
             officer,
-        } => { answer_move(register, train, gate, authority, officer) }
+        } => answer_move(register, train, gate, authority, officer),
         Call::Passed { train } => answer_passed(register, train),
         Call::Term {
             authority,
@@ -276,7 +269,7 @@ pub fn answer_of(register: &Register, s: Seven, c: Call) -> Result<(), Refusal>
             toa,
             officer,
             distance,
-        } => { answer_join(register, twa, toa, officer, distance) }
+        } => answer_join(register, twa, toa, officer, distance),
         Call::BookOut { gate, .. } => answer_book_out(register, gate),
         Call::BookIn {
             gate,

@@ -5,15 +5,14 @@ use mathlib.Core.List.{List}
 use lib.ListN.{length, take, drop}
 use Rattle.rules.specs.declared.Seven.{Seven}
 use Rattle.rules.specs.declared.Register.{Register}
-use Rattle.lines.specs.declared.Line.{Line}
-use Rattle.lines.specs.declared.Line.TheVariants.{Call, Malformed}
+use Rattle.std.specs.Prelude.{Option, Some, None}
 use Rattle.lines.specs.Line.{line_in}
 use Rattle.calls.specs.Lines.{unless_malformed, calls_in}
 use Rattle.calls.specs.Run.{run_of, RunPost}
 
-one_more : (line : Line) (calls : List Seven) (n : ℕ) → length calls ≤ n → length (unless_malformed line calls) ≤ suc n
-one_more (Call s) calls n h = omega arith
-one_more Malformed calls n h = omega arith
+one_more : (line : Option Seven) (calls : List Seven) (n : ℕ) → length calls ≤ n → length (unless_malformed line calls) ≤ suc n
+one_more (Some s) calls n h = omega arith
+one_more None calls n h = omega arith
 
 calls_most : (n : ℕ) (text : List ℕ) → length (calls_in n text) ≤ n
 unfolding calls_in

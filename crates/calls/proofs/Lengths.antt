@@ -17,8 +17,7 @@ use Rattle.rules.specs.Step.{Once, after, allotted}
 use Rattle.rules.proofs.Answers.{cond_most, answer_most}
 use Rattle.rules.proofs.Once.{once_after}
 use Rattle.rules.proofs.Lines.{Small, line_55}
-use Rattle.lines.specs.declared.Line.{Line}
-use Rattle.lines.specs.declared.Line.TheVariants as Lines
+use Rattle.std.specs.Prelude.{Option, Some, None}
 use Rattle.lines.specs.Line.{line_in}
 use Rattle.calls.specs.Lines.{unless_malformed, calls_in}
 use Rattle.calls.specs.Run.{journal, run_of}
@@ -60,10 +59,10 @@ unfolding calls_in
 calls_small zero text = tt
 calls_small (suc n) text = go (line_in (take 43 text)) refl (calls_small n (drop 43 text))
   where
-    go : (l : Line) → line_in (take 43 text) ≡ l → Each SmallCall (calls_in n (drop 43 text))
+    go : (l : Option Seven) → line_in (take 43 text) ≡ l → Each SmallCall (calls_in n (drop 43 text))
         → Each SmallCall (unless_malformed l (calls_in n (drop 43 text)))
-    go (Lines.Call c) e ih = (each_small (numbers_of c) (call_line (take 43 text) c e).small, ih)
-    go Lines.Malformed e ih = tt
+    go (Some c) e ih = (each_small (numbers_of c) (call_line (take 43 text) c e).small, ih)
+    go None e ih = tt
 
 -- THEOREM: a run's journal has 55 bytes for each call that it made
 pub run_length : (n : ℕ) (b : Board) (text : List ℕ) → Once b → length (run_of n b text).text ≡ 55 * (run_of n b text).lines

@@ -17,8 +17,7 @@ use Rattle.rules.specs.Step.{Made, Answered, after, allotted, trace, final}
 use Rattle.rules.specs.Reckoning.{start, reckoned}
 use Rattle.rules.specs.Claim.{Safe}
 use Rattle.rules.proofs.Safety.{demand_3}
-use Rattle.lines.specs.declared.Line.{Line}
-use Rattle.lines.specs.declared.Line.TheVariants.{Call, Malformed}
+use Rattle.std.specs.Prelude.{Option, Some, None}
 use Rattle.lines.specs.Line.{line_in}
 use Rattle.calls.specs.Lines.{unless_malformed, calls_in}
 use Rattle.calls.specs.Run.{made, journal, Run, run_of, ◌then_run◌}
@@ -42,11 +41,11 @@ module _ (b : Board) (text : List ℕ) where
   unfolding run_of calls_in journal final
   run_none = refl
 
-  pub run_malformed : (n : ℕ) → line_in (take 43 text) ≡ Malformed → run_of (suc n) b text ≡ stopped_at b
+  pub run_malformed : (n : ℕ) → line_in (take 43 text) ≡ None → run_of (suc n) b text ≡ stopped_at b
   unfolding run_of calls_in journal final
   run_malformed n e = rw (e, eqb-zero-suc n)
 
-  pub run_call : (n : ℕ) (c : Seven) → line_in (take 43 text) ≡ Call c
+  pub run_call : (n : ℕ) (c : Seven) → line_in (take 43 text) ≡ Some c
       → run_of (suc n) b text ≡ (going (after b c 55) (line_on b c) 1 then_run run_of n (after b c 55) (drop 43 text))
   unfolding run_of calls_in journal final
   run_call n c e =
@@ -85,15 +84,15 @@ run_parts zero m b [] t e = rw (zero-add m, run_none b [], zero-add (run_of m b 
 run_parts zero m b (x ∷ s) t e = absurd (omega arith)
 run_parts (suc n) m b s t e = go (line_in (take 43 s)) refl (λ (b : Board). run_parts n m b (drop 43 s) t (other_length n s t e))
   where
-    go : (l : Line) → line_in (take 43 s) ≡ l
+    go : (l : Option Seven) → line_in (take 43 s) ≡ l
         → ((b : Board) → run_of (n + m) b (drop 43 s ++ t) ≡ (run_of n b (drop 43 s) then_run run_of m (run_of n b (drop 43 s)).board t))
         → run_of (suc n + m) b (s ++ t) ≡ (run_of (suc n) b s then_run run_of m (run_of (suc n) b s).board t)
-    go (Call c) l ih =
+    go (Some c) l ih =
         let b₁ = after b c 55 in
         let first = run_of n b₁ (drop 43 s) in
         rw (suc-add n m, run_call b (s ++ t) (n + m) c (ap line_in (first_line n s t e) ∙ l), other_lines n s t e, ih b₁, run_call b s n c l)
         (going_then b₁ (line_on b c) 1 first (run_of m first.board t))
-    go Malformed l ih = rw (suc-add n m, run_malformed b (s ++ t) (n + m) (ap line_in (first_line n s t e) ∙ l), run_malformed b s n l)
+    go None l ih = rw (suc-add n m, run_malformed b (s ++ t) (n + m) (ap line_in (first_line n s t e) ∙ l), run_malformed b s n l)
 
 -- the calls of the whole: those of the first part and, where each of its lines is one, those of the second
 pub calls_parts : (n m : ℕ) (s t : List ℕ) → length s ≡ 43 * n
@@ -107,10 +106,10 @@ calls_parts (suc n) m s t e =
     cs : List Seven
     cs = calls_in n (drop 43 s)
 
-    go : (l : Line) → unless_malformed l (cs ++ cond (eqb (length cs) n) (calls_in m t) [])
+    go : (l : Option Seven) → unless_malformed l (cs ++ cond (eqb (length cs) n) (calls_in m t) [])
         ≡ unless_malformed l cs ++ cond (eqb (length (unless_malformed l cs)) (suc n)) (calls_in m t) []
-    go (Call c) = rw (eqb-suc-suc (length cs) n)
-    go Malformed = rw (eqb-zero-suc n)
+    go (Some c) = rw (eqb-suc-suc (length cs) n)
+    go None = rw (eqb-zero-suc n)
 
 -- ---- calls in two parts
 

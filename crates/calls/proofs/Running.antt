@@ -2,8 +2,8 @@
 use Prim.Native.Nat.{ℕ, suc, ◌+◌, ◌-◌, ◌*◌, ◌/◌, ◌≤◌, ◌<◌}
 use native.Mathlib.Nat.{sub-zero, zero-add, add-zero, add_assoc}
 use native.Mathlib.Omega.{arith}
-use mathlib.Core.Path.{◌≡◌, refl, sym, ap, ◌∙◌}
-use mathlib.Core.Bool.{Bool}
+use mathlib.Core.Path.{◌≡◌, refl, sym, ap, subst, ◌∙◌}
+use mathlib.Core.Bool.{Bool, true, false}
 use mathlib.Core.List.{List, [], ◌++◌, append_assoc, append-nil}
 use lib.ListN.{length, take, drop, length-append, length-take, length-drop, take-append-drop}
 use lib.Seq.{length-take-le, take_at, drop-drop}
@@ -12,102 +12,123 @@ use Rattle.rules.specs.declared.Seven.{Seven}
 use Rattle.rules.specs.declared.Register.{Register}
 use Rattle.rules.specs.Board.{Board, board_of}
 use Rattle.rules.specs.Step.{Kept, after}
-use Rattle.lines.specs.declared.Line.{Line}
-use Rattle.lines.specs.declared.Line.TheVariants.{Call, Malformed}
+use Rattle.std.specs.Prelude.{Option, Some, None}
 use Rattle.lines.specs.Line.{line_in}
 use Rattle.calls.specs.Run.{run_of, ◌then_run◌, RunPost}
 use Rattle.lines.proofs.Texts.{call_length}
-use Rattle.calls.proofs.Parts.{going, stopped_at, line_on, run_none, run_malformed, run_call}
+use Rattle.calls.proofs.Parts.{going, line_on, run_none, run_malformed, run_call}
 
 -- ---- the line from a place on
 
 -- a text cut to 43 bytes, as the code cuts it
-pub line_part : (at : ℕ) (text : List ℕ) → line_in (mid_of at (at + 43 - at) text) ≡ line_in (take 43 (drop at text))
-line_part at text = let e : at + 43 - at ≡ 43 = omega arith in rw e
+line_part : (at : ℕ) (text line : List ℕ) → line ≡ mid_of at (at + 43 - at) text → line ≡ take 43 (drop at text)
+line_part at text line e = let w : at + 43 - at ≡ 43 = omega arith in e ∙ rw w
 
 -- fewer bytes than a line has
-pub short_malformed : (at : ℕ) (text : List ℕ) → length text - at < 43 → line_in (take 43 (drop at text)) ≡ Malformed
+short_malformed : (at : ℕ) (text : List ℕ) → length text < at + 43 → line_in (take 43 (drop at text)) ≡ None
 short_malformed at text h = go (line_in (take 43 (drop at text))) refl
   where
-    go : (l : Line) → line_in (take 43 (drop at text)) ≡ l → l ≡ Malformed
-    go (Call c) e = absurd (omega (arith, call_length (take 43 (drop at text)) c e, length-take 43 (drop at text), length-drop at text))
-    go Malformed e = refl
+    go : (l : Option Seven) → line_in (take 43 (drop at text)) ≡ l → l ≡ None
+    go (Some c) e = absurd (omega (arith, call_length (take 43 (drop at text)) c e, length-take 43 (drop at text), length-drop at text))
+    go None e = refl
 
--- ---- the loop, k of at most n calls made
+-- ---- the loop: k of at most n calls made, from b₀ to b
 
-module _ (n : ℕ) (b₀ : Board) (text out₀ : List ℕ) where
-  pub record SoFar (k : ℕ) (b : Board) (out : List ℕ) : Type 0 where
-    pub few : k ≤ n
-    pub within : 43 * k ≤ length text
-    pub long : length out ≡ length out₀
-    pub stays : drop (55 * k) out ≡ drop (55 * k) out₀
-    pub run : run_of n b₀ text ≡ (going b (take (55 * k) out) k then_run run_of (n - k) b (drop (43 * k) text))
+pub record SoFar (n : ℕ) (b₀ : Board) (text out₀ : List ℕ) (k : ℕ) (b : Board) (out : List ℕ) : Type 0 where
+  pub few : k ≤ n
+  pub within : 43 * k ≤ length text
+  pub long : length out ≡ length out₀
+  pub stays : drop (55 * k) out ≡ drop (55 * k) out₀
+  pub run : run_of n b₀ text ≡ (going b (take (55 * k) out) k then_run run_of (n - k) b (drop (43 * k) text))
 
-  pub so_far_none : SoFar 0 b₀ out₀
-  so_far_none = record {
-    few = omega arith;
-    within = omega arith;
-    long = refl;
-    stays = refl;
-    run = rw (sub-zero n, zero-add (run_of n b₀ text).lines);
-  }
+pub so_far_none : (n : ℕ) (b₀ : Board) (text out₀ : List ℕ) → SoFar n b₀ text out₀ 0 b₀ out₀
+so_far_none n b₀ text out₀ = record {
+  few = omega arith;
+  within = omega arith;
+  long = refl;
+  stays = refl;
+  run = rw (sub-zero n, zero-add (run_of n b₀ text).lines);
+}
 
-  module _ (k : ℕ) (b : Board) (out : List ℕ) (so_far : SoFar k b out) where
-    -- a call more, with its line in the buffer
-    pub so_far_call : (c : Seven) (b₁ : Board) (last : List ℕ) → k < n → 43 ≤ length text - 43 * k → 55 * n ≤ length out₀
-        → line_in (take 43 (drop (43 * k) text)) ≡ Call c → b₁ ≡ after b c 55 → length last ≡ 55 → last ≡ line_on b c
-        → SoFar (k + 1) b₁ (put_mid (55 * k) (55 * k + 55 - 55 * k) out last)
-    so_far_call c b₁ last more left room e eb l el =
-        let at = 55 * k in
-        let long = so_far.long in
-        let within = so_far.within in
-        let place : 55 * (k + 1) ≡ at + 55 = omega arith in
-        let next : 43 * (k + 1) ≡ 43 * k + 43 = omega arith in
-        let rest : n - k ≡ suc (n - (k + 1)) = omega arith in
-        let left-run = run_of (n - (k + 1)) (after b c 55) (drop (43 * k + 43) text) in
-        let part : length (mid_of at (at + 55 - at) out) ≡ 55 = mid_len at (at + 55) out (omega arith) ∙ omega arith in
-        let written : take (at + 55) (put_mid at (at + 55 - at) out last) ≡ take at out ++ last =
-        rw (← append_assoc (take at out) last (post_of at (at + 55 - at) out))
-        (take_at (take at out ++ last) (post_of at (at + 55 - at) out) (at + 55) (rw (length-append (take at out) last, length-take-le at out (omega arith), l))) in
-        record {
-          few = omega arith;
-          within = omega arith;
-          long = same_len_mid at (at + 55 - at) out last (l ∙ sym part) ∙ long;
-          stays =
-              rw place (drop_put at (at + 55) out last (omega arith) (omega arith) (l ∙ omega arith) ∙ sym (drop-drop 55 at out)
-              ∙ ap (drop 55) so_far.stays ∙ drop-drop 55 at out₀);
-          run =
-              so_far.run
-              ∙ rw (
-                rest,
-                run_call b (drop (43 * k) text) (n - (k + 1)) c e,
-                drop-drop 43 (43 * k) text,
-                place,
-                next,
-                written,
-                eb,
-                el,
-                append_assoc (take at out) (line_on b c) left-run.text,
-                add_assoc k 1 left-run.lines,
-              );
-        }
+module _ (n : ℕ) (b₀ : Board) (text out₀ : List ℕ) (k : ℕ) (b : Board) (out : List ℕ) (so_far : SoFar n b₀ text out₀ k b out) where
+  -- a call more, with its line in the buffer
+  pub so_far_call : (c : Seven) (b₁ : Board) (line last : List ℕ) → k < n → 43 * k + 43 ≤ length text → 55 * n ≤ length out₀
+      → line ≡ mid_of (43 * k) (43 * k + 43 - 43 * k) text → line_in line ≡ Some c → b₁ ≡ after b c 55
+      → length last ≡ length (mid_of (55 * k) (55 * k + 55 - 55 * k) out) → last ≡ line_on b c
+      → SoFar n b₀ text out₀ (k + 1) b₁ (put_mid (55 * k) (55 * k + 55 - 55 * k) out last)
+  so_far_call c b₁ line last more left room cut e eb fills el =
+      let at = 55 * k in
+      let long = so_far.long in
+      let within = so_far.within in
+      let place : 55 * (k + 1) ≡ at + 55 = omega arith in
+      let next : 43 * (k + 1) ≡ 43 * k + 43 = omega arith in
+      let rest : n - k ≡ suc (n - (k + 1)) = omega arith in
+      let read : line_in (take 43 (drop (43 * k) text)) ≡ Some c = rw (← line_part (43 * k) text line cut) e in
+      let left-run = run_of (n - (k + 1)) (after b c 55) (drop (43 * k + 43) text) in
+      let part : length (mid_of at (at + 55 - at) out) ≡ 55 = mid_len at (at + 55) out (omega arith) ∙ omega arith in
+      let l = fills ∙ part in
+      let written : take (at + 55) (put_mid at (at + 55 - at) out last) ≡ take at out ++ last =
+      rw (← append_assoc (take at out) last (post_of at (at + 55 - at) out))
+      (take_at (take at out ++ last) (post_of at (at + 55 - at) out) (at + 55) (rw (length-append (take at out) last, length-take-le at out (omega arith), l))) in
+      record {
+        few = omega arith;
+        within = omega arith;
+        long = same_len_mid at (at + 55 - at) out last fills ∙ long;
+        stays =
+            rw place (drop_put at (at + 55) out last (omega arith) (omega arith) (l ∙ omega arith) ∙ sym (drop-drop 55 at out)
+            ∙ ap (drop 55) so_far.stays ∙ drop-drop 55 at out₀);
+        run =
+            so_far.run
+            ∙ rw (
+              rest,
+              run_call b (drop (43 * k) text) (n - (k + 1)) c read,
+              drop-drop 43 (43 * k) text,
+              place,
+              next,
+              written,
+              eb,
+              el,
+              append_assoc (take at out) (line_on b c) left-run.text,
+              add_assoc k 1 left-run.lines,
+            );
+      }
 
-    -- nothing more
-    pub so_far_done : (before register : Register) (stopped : Bool) → n ≡ length out₀ / 55 → b₀ ≡ board_of before → b ≡ board_of register → Kept register
-        → run_of (n - k) b (drop (43 * k) text) ≡ record { board = b; text = []; lines = 0; stopped = stopped }
-        → RunPost before text out₀ register k out
-    so_far_done before register stopped en eb er kept e =
-        let all : run_of (length out₀ / 55) (board_of before) text ≡ record { board = b; text = take (55 * k) out ++ []; lines = k + 0; stopped = stopped } =
-        rw (← en, ← eb) (so_far.run ∙ rw e) in
-        record {
-          board = rw (all, er);
-          lines = rw (all, add-zero k);
-          bytes = rw (all, append-nil (take (55 * k) out), ← so_far.stays) (sym (take-append-drop (55 * k) out));
-          kept = kept;
-        }
+-- ---- the end of the loop
 
-    pub so_far_full : n ≤ k → run_of (n - k) b (drop (43 * k) text) ≡ going b [] 0
-    so_far_full h = let e : n - k ≡ 0 = omega arith in rw e (run_none b (drop (43 * k) text))
+module _ (before register : Register) (text out₀ : List ℕ) (k : ℕ) (out : List ℕ)
+    (so_far : SoFar (length out₀ / 55) (board_of before) text out₀ k (board_of register) out) (kept : Kept register) where
+  -- nothing more
+  done : (stopped : Bool)
+      → run_of (length out₀ / 55 - k) (board_of register) (drop (43 * k) text) ≡ record { board = board_of register; text = []; lines = 0; stopped = stopped }
+      → RunPost before text out₀ register k out
+  done stopped e =
+      let all : run_of (length out₀ / 55) (board_of before) text ≡ record { board = board_of register; text = take (55 * k) out ++ []; lines = k + 0; stopped = stopped } =
+      so_far.run ∙ rw e in
+      record {
+        board = rw all;
+        lines = rw (all, add-zero k);
+        bytes = rw (all, append-nil (take (55 * k) out), ← so_far.stays) (sym (take-append-drop (55 * k) out));
+        kept = kept;
+      }
 
-    pub so_far_malformed : k < n → line_in (take 43 (drop (43 * k) text)) ≡ Malformed → run_of (n - k) b (drop (43 * k) text) ≡ stopped_at b
-    so_far_malformed h e = let s : n - k ≡ suc (n - (k + 1)) = omega arith in rw s (run_malformed b (drop (43 * k) text) (n - (k + 1)) e)
+  malformed : k < length out₀ / 55 → line_in (take 43 (drop (43 * k) text)) ≡ None → RunPost before text out₀ register k out
+  malformed h e =
+      let s : length out₀ / 55 - k ≡ suc (length out₀ / 55 - (k + 1)) = omega arith in
+      done true (rw s (run_malformed (board_of register) (drop (43 * k) text) (length out₀ / 55 - (k + 1)) e))
+
+  -- no call more was to be made
+  pub done_full : length out₀ / 55 ≤ k → RunPost before text out₀ register (length out₀ / 55) out
+  done_full h =
+      let few = so_far.few in
+      let all : length out₀ / 55 ≡ k = omega arith in
+      let e : length out₀ / 55 - k ≡ 0 = omega arith in
+      subst (λ (n : ℕ). RunPost before text out₀ register n out) (sym all) (done false (rw e (run_none (board_of register) (drop (43 * k) text))))
+
+  -- less than a line is left
+  pub done_short : k < length out₀ / 55 → length text < 43 * k + 43 → RunPost before text out₀ register k out
+  done_short h short = malformed h (short_malformed (43 * k) text short)
+
+  -- the next line is malformed
+  pub done_malformed : (line : List ℕ) → k < length out₀ / 55 → line ≡ mid_of (43 * k) (43 * k + 43 - 43 * k) text → line_in line ≡ None
+      → RunPost before text out₀ register k out
+  done_malformed line h cut e = malformed h (rw (← line_part (43 * k) text line cut) e)

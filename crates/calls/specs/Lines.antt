@@ -1,14 +1,12 @@
 -- A text of calls, line by line (01, "The journal"). Assumes nothing.
-use Rattle.std.specs.Prelude.{ℕ, zero, suc, List, [], ◌∷◌, take, drop}
+use Rattle.std.specs.Prelude.{ℕ, zero, suc, List, [], ◌∷◌, take, drop, Option, Some, None}
 use Rattle.rules.specs.declared.Seven.{Seven}
-use Rattle.lines.specs.declared.Line.{Line}
-use Rattle.lines.specs.declared.Line.TheVariants.{Call, Malformed}
 use Rattle.lines.specs.Line.{line_in}
 
 -- the calls on the lines of a text, at most n: "it stops before a malformed call line"; a last line cut short is one
-abbrev pub unless_malformed : Line → List Seven → List Seven
-unless_malformed (Call s) calls = s ∷ calls
-unless_malformed Malformed calls = []
+abbrev pub unless_malformed : Option Seven → List Seven → List Seven
+unless_malformed (Some s) calls = s ∷ calls
+unless_malformed None calls = []
 
 unfoldable pub calls_in : ℕ → List ℕ → List Seven
 calls_in zero text = []

@@ -1,9 +1,7 @@
 -- The laws of lists that the crates above cite.
 pub mod Tests
 pub mod Search
-pub mod Prefix
 pub mod Distinct
 pub mod Order
-pub mod Loops
 pub mod Each
 pub mod Finds

@@ -1,7 +1,5 @@
 -- The definitions on lists that the crates above cite.
 pub mod Search
-pub mod Prefix
-pub mod Places
 pub mod Distinct
 pub mod Order
 pub mod Each

@@ -1,4 +1,5 @@
--- MOVE's refusals from the flags that its answer is decided by: E, W and the gate looked for, and what is asked of them. Assumes nothing.
+-- MOVE's refusals from the flags that its answer is decided by: E and W looked for, and what is asked of them. Assumes
+-- nothing.
 use Prim.Native.Nat.{ℕ}
 use mathlib.Core.Path.{◌≡◌, refl, sym, ap, ◌∙◌}
 use mathlib.Core.Bool.{Bool, true, false, not, ◌&&◌, ◌||◌}
@@ -20,8 +21,9 @@ not_both : (s t : Bool) → not (s && t) ≡ (not s || not t)
 not_both true t = refl
 not_both false t = refl
 
--- a list is searched by a slice of it
-pub looked : (test : Authority → Bool) {o : Option Authority} {xs ys : List Authority} → o ≡ find test xs → xs ≡ ys → o ≡ find test ys
+-- a search of a slice is one of the list that it shows
+pub looked : (test : Authority → Bool) {o : Option Authority} {xs ys : List Authority}
+    → o ≡ find test xs → xs ≡ ys → o ≡ find test ys
 looked test is same = is ∙ ap (find test) same
 
 module _ (b : Board) (p : ℕ) {e : Option Authority} (at_e : e ≡ find (is_e p) b.authorities) where
@@ -30,7 +32,8 @@ module _ (b : Board) (p : ℕ) {e : Option Authority} (at_e : e ≡ find (is_e p
   none_e r none = ap not (sym (is_some-e b p at_e) ∙ none) ∙ not_not r
 
   -- 12: no E, and another train touches "to"
-  pub is_taken : (t : ℕ) (r : Bool) {met : Bool} → is_some e ≡ not r → met ≡ any (is_other_at t p) b.trains → taken b t p ≡ (r && met)
+  pub is_taken : (t : ℕ) (r : Bool) {met : Bool} → is_some e ≡ not r → met ≡ any (is_other_at t p) b.trains
+      → taken b t p ≡ (r && met)
   unfolding taken
   is_taken t r none touched = rw (none_e r none, touched)
 
@@ -47,9 +50,12 @@ module _ (b : Board) (p : ℕ) {w : Option Authority} (at_w : w ≡ find (is_w p
   pub is_worked_on : {r : Bool} → r ≡ (unwrap_or w no_authority).workers_on → worked_on b p ≡ r
   is_worked_on has_workers = worked_by w refl ∙ sym has_workers
 
-module _ (b : Board) (p : ℕ) {e w : Option Authority} (at_e : e ≡ find (is_e p) b.authorities) (at_w : w ≡ find (is_w p) b.authorities) where
+module _
+    (b : Board) (p : ℕ) {e w : Option Authority}
+    (at_e : e ≡ find (is_e p) b.authorities) (at_w : w ≡ find (is_w p) b.authorities) where
   -- 18: gate blocked, no E and no W
-  pub is_barred : (g : ℕ) {blocked : Bool} (r s : Bool) → blocked ≡ has g b.blocks → is_some e ≡ not r → is_some w ≡ not s
+  pub is_barred : (g : ℕ) {blocked : Bool} (r s : Bool)
+      → blocked ≡ has g b.blocks → is_some e ≡ not r → is_some w ≡ not s
       → barred b g p ≡ ((blocked && r) && s)
   unfolding barred
   is_barred g r s has_g none_e' none_w' = rw (none_e b p at_e r none_e', none_w b p at_w s none_w', has_g)

@@ -43,8 +43,10 @@ fn pilot_of(e: Option<Authority>, w: Option<Authority>) -> Authority
     e.or(w).unwrap_or_default()
 }
 
-// Let E be the exclusive authority and W the TWA in force whose limits hold the gate's "to". 12: no E, and another train touches "to". 14: W has
-// workers on. 18: gate blocked, no E and no W. 19: authority and officer aren't those of E, else those of W, else 0 and 0.
+// Let E be the exclusive authority and W the TWA in force whose limits hold the gate's "to". 12: no E, and another
+// train touches "to". 14: W has workers on. 18: gate blocked, no E and no W. 19: authority and officer aren't those
+// of E, else those of W, else 0 and 0.
+// Kept: `&` and `|` in 12, 18 and 19. Where the ways of an `&&` join again, the check loses the tests on each.
 pub fn answer_move(
     register: &Register,
     t: TrainNo,
@@ -52,7 +54,8 @@ pub fn answer_move(
     n: AuthorityNo,
     officer: u16,
 ) -> Result<(), Refusal>
-    ensures { answer_no result ≡ lowest (move_refusals (board_of register.now) t.0 g.0 (gate_at (board_of register.now).gates g.0) n.0 officer) }
+    ensures { answer_no result
+        ≡ lowest (move_refusals (board_of register.now) t.0 g.0 (gate_at (board_of register.now).gates g.0) n.0 officer) }
 {
     let gate = gates::gate_at(&register.gates, g);
     let e = authorities::exclusive_at(&register.authorities, gate.to);

@@ -1,34 +1,57 @@
--- `movements::answer_move` meets its contract: each test that was not taken passes over one refusal of the list. Assumes nothing.
+-- `movements::answer_move` meets its contract: each test that was not taken passes over one refusal of the list.
+-- Assumes nothing.
 use Rattle.std.proofs.Common.{rules, ◌≡◌, ap, ◌∙◌, ◌&&◌, ◌||◌, not, eqb}
 use Rattle.lists.specs.Search.{any}
 use Rattle.rules.specs.Board.{board_of, gate_at}
 use Rattle.rules.specs.Refusals.{lowest, taken, worked_on, barred, not_piloted, is_e, is_w, is_other_at}
 use Rattle.movements.proofs.Flags.{looked, is_taken, is_worked_on, is_barred, is_not_piloted}
 use Rattle.movements.proofs.answer_move.Goals as goal
-use Rattle.movements.proofs.answer_move.Goals.{After-gate_at-gate, After-is_another_at, After-has_workers_on, After-is_none-3, After-ne}
+use Rattle.movements.proofs.answer_move.Goals.{After-gate_at-gate, After-is_another_at, After-has_workers_on}
+use Rattle.movements.proofs.answer_move.Goals.{After-is_none-3, After-ne}
 
 -- the gate, looked for
 gate : (c : After-gate_at-gate) → gate_at c.args.register.now.gates.items c.args.g.0 ≡ c.gate_at-gate.result
 gate c = search rules
 
--- what the tests ask of them
-is_12 : (c : After-is_another_at) → taken (board_of c.args.register.now) c.args.t.0 c.gate_at-gate.result.to ≡ (c.is_none.result && c.is_another_at.result)
+-- what the tests ask of E and W
+is_12 : (c : After-is_another_at)
+    → taken (board_of c.args.register.now) c.args.t.0 c.gate_at-gate.result.to ≡ (c.is_none.result && c.is_another_at.result)
 unfolding board_of
-is_12 c = is_taken (board_of c.args.register.now) _ (looked (is_e c.gate_at-gate.result.to) c.exclusive_at-e.ensures c.deref-2.ensures.0) c.args.t.0 c.is_none.result c.is_none.ensures
-    (c.is_another_at.ensures ∙ ap (any (is_other_at c.args.t.0 c.gate_at-gate.result.to)) c.deref-4.ensures.0)
+is_12 c =
+    let to = c.gate_at-gate.result.to in
+    is_taken (board_of c.args.register.now) to (looked (is_e to) c.exclusive_at-e.ensures c.deref-2.ensures.0)
+    c.args.t.0 _ c.is_none.ensures
+    (c.is_another_at.ensures ∙ ap (any (is_other_at c.args.t.0 to)) c.deref-4.ensures.0)
 
-is_14 : (c : After-has_workers_on) → worked_on (board_of c.args.register.now) c.gate_at-gate.result.to ≡ c.has_workers_on.result
+is_14 : (c : After-has_workers_on)
+    → worked_on (board_of c.args.register.now) c.gate_at-gate.result.to ≡ c.has_workers_on.result
 unfolding board_of
-is_14 c = is_worked_on (board_of c.args.register.now) _ (looked (is_w c.gate_at-gate.result.to) c.twa_at-w.ensures c.deref-3.ensures.0) c.has_workers_on.ensures
+is_14 c =
+    let to = c.gate_at-gate.result.to in
+    is_worked_on (board_of c.args.register.now) to (looked (is_w to) c.twa_at-w.ensures c.deref-3.ensures.0)
+    c.has_workers_on.ensures
 
-is_18 : (c : After-is_none-3) → barred (board_of c.args.register.now) c.args.g.0 c.gate_at-gate.result.to ≡ ((c.has.result && c.is_none-2.result) && c.is_none-3.result)
+is_18 : (c : After-is_none-3)
+    → barred (board_of c.args.register.now) c.args.g.0 c.gate_at-gate.result.to
+    ≡ ((c.has.result && c.is_none-2.result) && c.is_none-3.result)
 unfolding board_of
-is_18 c = is_barred (board_of c.args.register.now) _ (looked (is_e c.gate_at-gate.result.to) c.exclusive_at-e.ensures c.deref-2.ensures.0) (looked (is_w c.gate_at-gate.result.to) c.twa_at-w.ensures c.deref-3.ensures.0) c.args.g.0 _ _ c.has.ensures c.is_none-2.ensures c.is_none-3.ensures
+is_18 c =
+    let to = c.gate_at-gate.result.to in
+    is_barred (board_of c.args.register.now) to
+    (looked (is_e to) c.exclusive_at-e.ensures c.deref-2.ensures.0)
+    (looked (is_w to) c.twa_at-w.ensures c.deref-3.ensures.0)
+    c.args.g.0 _ _ c.has.ensures c.is_none-2.ensures c.is_none-3.ensures
 
-is_19 : (c : After-ne) → not_piloted (board_of c.args.register.now) c.gate_at-gate.result.to c.args.n.0 c.args.officer
+is_19 : (c : After-ne)
+    → not_piloted (board_of c.args.register.now) c.gate_at-gate.result.to c.args.n.0 c.args.officer
     ≡ (c.ne.result || not (eqb c.args.officer c.pilot_of-pilot.result.officer))
 unfolding board_of
-is_19 c = is_not_piloted (board_of c.args.register.now) _ (looked (is_e c.gate_at-gate.result.to) c.exclusive_at-e.ensures c.deref-2.ensures.0) (looked (is_w c.gate_at-gate.result.to) c.twa_at-w.ensures c.deref-3.ensures.0) c.args.n.0 c.args.officer c.pilot_of-pilot.ensures c.ne.ensures
+is_19 c =
+    let to = c.gate_at-gate.result.to in
+    is_not_piloted (board_of c.args.register.now) to
+    (looked (is_e to) c.exclusive_at-e.ensures c.deref-2.ensures.0)
+    (looked (is_w to) c.twa_at-w.ensures c.deref-3.ensures.0)
+    c.args.n.0 c.args.officer c.pilot_of-pilot.ensures c.ne.ensures
 
 pub returns-then-has_no_room : goal.returns-then-has_no_room
 unfolding lowest board_of

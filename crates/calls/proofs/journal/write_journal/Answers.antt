@@ -1,15 +1,19 @@
--- `calls::text::write_journal` meets its contract: the call's numbers are copied, the answer and the number are written behind them. Assumes nothing.
-use Rattle.std.proofs.Common.{arith, rules}
+-- `calls::journal::write_journal` meets its contract: a line that holds a call is 43 bytes long, and its first 42 with the numbers written behind
+-- them are the journal line. Assumes nothing.
+use Rattle.std.proofs.Common.{◌≤◌, arith, rules, length, length-take}
 use Rattle.lines.proofs.Texts.{call_length}
 use Rattle.calls.proofs.Journals.{journal_filled}
 use Rattle.calls.proofs.journal.write_journal.Goals as goal
 
-pub copy_numbers-requires : goal.copy_numbers-requires
-copy_numbers-requires c = omega (arith, call_length _ _ c.requires.0, c.requires.1)
+pub slice_bounds-copy_from_slice-end : goal.slice_bounds-copy_from_slice-end
+slice_bounds-copy_from_slice-end c =
+    let long : 42 ≤ length c.args.text.now = omega (arith, call_length _ _ c.requires.0) in search rules
+
+pub copy_from_slice-requires : goal.copy_from_slice-requires
+copy_from_slice-requires c = omega (arith, length-take 42 c.args.text.now, call_length _ _ c.requires.0)
 
 pub returns : goal.returns
 returns c =
     let w = c.write_line in
-    let wrote = rw (c.wide.ensures, c.wide-2.ensures) at w.ensures in
-    journal_filled _ c.args.out.now _ w.new.buf c.args.s c.args.answer c.args.number _ c.requires.0 c.requires.1 (search rules) (search rules)
-    c.copy_numbers.ensures wrote
+    let wrote = rw (c.from.ensures, c.answer_number.ensures, c.from-2.ensures, c.allotted_number.ensures) at w.ensures in
+    journal_filled _ _ _ _ _ _ _ _ wrote c.requires.0 c.copy_from_slice.ensures.after (omega arith) (search rules) (search rules)
