@@ -1,7 +1,6 @@
 // What goes wrong outside documents 01 and 02, and its words on standard error.
-use std::fmt;
 use std::fmt::InlineText;
-use std::{io, str};
+use std::{fmt, io, str};
 
 // Why a run did not come to its end.
 #[derive(Clone, Copy, Debug)]
@@ -26,7 +25,10 @@ impl fmt::Display for Failure<'_> {
                 }
             }
             Failure::Malformed { line } => {
-                write!(f, "calls: line {line} is malformed, and no call is made from it on")
+                write!(
+                    f,
+                    "calls: line {line} is malformed, and no call is made from it on"
+                )
             }
             Failure::Endless => write!(f, "calls: the file has no end"),
         }
