@@ -1,9 +1,9 @@
 // Reading a file in large pieces.
-ghost use Rattle.std.specs.Prelude.{◌<◌, length, take, IsNone};
+ghost use Rattle.std.specs.Prelude.{◌<◌, ◌↔◌, length, take, IsNone, IsOk};
 ghost use Rattle.std.specs.Counts.{IsPrefixLen};
 ghost use Rattle.std.specs.Io.KnownBytes.{Consumes, IsAtEnd};
 
-use crate::output::say_failed;
+use crate::failure::Failure;
 use std::fs::File;
 use std::io::{ErrorKind, Read};
 use std::rt::Files;
@@ -14,6 +14,18 @@ use std::{io, str};
 pub struct Filled {
     pub bytes: usize,
     pub failed: Option<io::Error>,
+}
+
+impl Filled {
+    // Fails where a read failed; the file goes by that name.
+    pub fn check<'a>(&self, name: &'a [u8]) -> Result<(), Failure<'a>>
+        ensures { IsOk result ↔ IsNone self.now.failed }
+    {
+        match self.failed {
+            Some(error) => Err(Failure::File { name, error }),
+            None => Ok(()),
+        }
+    }
 }
 
 // Reads until the buffer is full, the file ends or a read fails: what was read stands at the front of the buffer.
@@ -49,24 +61,15 @@ pub fn open<R: Files>(rt: &R, name: &[u8]) -> io::Result<R::File> {
     }
 }
 
-// Reads the file of that name to the front of the buffer, as much of it as there is room for. Where it cannot be opened or read, says so.
-pub fn read_file<R: Files + Eprint>(rt: &R, name: &[u8], buf: &mut [u8]) -> Filled
+// Reads the file of that name to the front of the buffer, as much of it as there is room for. A file that cannot be opened has nothing.
+pub fn read_file<R: Files>(rt: &R, name: &[u8], buf: &mut [u8]) -> Filled
     ensures { IsPrefixLen result.bytes buf.new }
 {
     match open(rt, name) {
-        Ok(mut file) => {
-            let filled = fill(&mut file, buf);
-            if let Some(error) = filled.failed {
-                say_failed(rt, name, &error);
-            }
-            filled
-        }
-        Err(error) => {
-            say_failed(rt, name, &error);
-            Filled {
-                bytes: 0,
-                failed: Some(error),
-            }
-        }
+        Ok(mut file) => fill(&mut file, buf),
+        Err(error) => Filled {
+            bytes: 0,
+            failed: Some(error),
+        },
     }
 }

@@ -1,175 +1,113 @@
-// The calls of a working folder: the board opened from the file `plan`, the calls of the file `calls` made on it in pieces of whole lines, and
-// their journal lines printed where that is asked for.
-ghost use Rattle.std.specs.Prelude.{◌<◌, ◌≡◌, length};
+// The calls of a working folder: the board opened from the file `plan`, and the calls of the file `calls` made on it in pieces of whole lines.
+ghost use Rattle.std.specs.Prelude.{◌≡◌, length, IfOk, IfSome};
 ghost use Rattle.rules.specs.Step.{Kept};
 
+use crate::failure::{Failure, say_failure};
 use crate::input::{fill, open, read_file};
-use crate::output::{print, print_number, say_failed, say_malformed};
+use crate::output::{print, print_number};
 use rules::Register;
 use std::io::Read;
 use std::rt::Files;
 
-// The register after a piece, whether there may be more to run, and whether nothing went wrong.
-#[derive(Clone, Copy)]
-struct Turn {
-    register: Register,
-    more: bool,
-    whole: bool,
-}
+// A call's line has 43 bytes and its journal line 55.
+const CALL_SIZE: usize = 43;
 
-// The register after the calls of a folder, and whether all of them were made: the plan was opened, and no line was malformed.
-#[derive(Clone, Copy)]
-pub struct Shift {
-    pub register: Register,
-    pub whole: bool,
-}
+const LINE_SIZE: usize = 55;
 
-// Runs one piece of the calls, 8192 lines or what is left of the file, and prints its journal lines if asked. `piece` counts the pieces before it.
-fn run_piece<R: Print + Eprint, F: Read>(
-    rt: &R,
-    register: Register,
-    printing: bool,
-    piece: u64,
-    file: &mut F,
-    text: &mut [u8],
-    out: &mut [u8],
-) -> Turn
-    requires { Kept register × (piece < 1125899906842624) × (length text.old ≡ 352256) × (length out.old ≡ 450560) }
-    ensures { Kept result.register }
-{
-    let filled = fill(file, text);
-    let n = filled.bytes;
-    let ran = calls::run(register, &text[..n], out);
-    let register = ran.register;
-    let lines = ran.lines;
-    let m = 55 * lines;
-    if printing {
-        if !print(rt, &out[..m]) {
-            return Turn {
-                register,
-                more: false,
-                whole: false,
-            };
-        }
-    }
-    if let Some(error) = filled.failed {
-        say_failed(rt, b"calls", &error);
-        return Turn {
-            register,
-            more: false,
-            whole: false,
-        };
-    }
-    if 43 * lines != n {
-        say_malformed(rt, 8192 * piece + lines as u64 + 1);
-        return Turn {
-            register,
-            more: false,
-            whole: false,
-        };
-    }
-    Turn {
-        register,
-        more: n == text.len(),
-        whole: true,
-    }
-}
+// How many calls are read at a time.
+const PIECE_LINES: usize = 8192;
 
-// Runs the calls of the file, piece by piece. A loop has to end, and nothing says that a file does, so the pieces are counted; no file is
-// so long that the count is reached.
-fn run_pieces<R: Print + Eprint, F: Read>(
-    rt: &R,
+// The longest plan has 65 lines of 19 bytes; one byte more shows a text that is too long.
+pub const PLAN_SIZE: usize = 65 * 19 + 1;
+
+// A loop has to end, and nothing says that a file does, so the pieces are counted; no file is so long that the count is reached.
+const MOST_PIECES: u64 = 1 << 50;
+
+// Runs the calls of the file, piece by piece, and hands the journal lines of each on.
+fn run_pieces<'a, F: Read, L: Fn(&[u8]) -> Result<(), Failure<'a>>>(
     opened: Register,
-    printing: bool,
     file: &mut F,
     text: &mut [u8],
     out: &mut [u8],
-) -> Shift
-    requires { Kept opened × (length text.old ≡ 352256) × (length out.old ≡ 450560) }
-    ensures { Kept result.register }
+    on_lines: &L,
+) -> Result<Register, Failure<'a>>
+    requires opened { Kept opened × (length text.old ≡ 352256) × (length out.old ≡ 450560) }
+    requires on_lines { L.IsAlwaysCallable on_lines.now }
+    ensures { IfOk result (λ register. Kept register) }
 {
     let mut register = opened;
-    for piece in 0..1125899906842624u64 {
-        let turn = run_piece(rt, register, printing, piece, file, text, out);
-        register = turn.register;
-        if !turn.more {
-            return Shift {
-                register,
-                whole: turn.whole,
-            };
+    for piece in 0..MOST_PIECES {
+        let filled = fill(file, text);
+        let ran = calls::run(register, &text[..filled.bytes], out);
+        register = ran.register;
+        on_lines(&out[..LINE_SIZE * ran.lines])?;
+        filled.check(b"calls")?;
+        if CALL_SIZE * ran.lines != filled.bytes {
+            return Err(Failure::Malformed {
+                line: PIECE_LINES as u64 * piece + ran.lines as u64 + 1,
+            });
+        }
+        if filled.bytes < text.len() {
+            return Ok(register);
         }
     }
-    Shift {
-        register,
-        whole: false,
-    }
+    Err(Failure::Endless)
 }
 
-// Room for 8192 call lines of 43 bytes, and for as many journal lines of 55. The `ensures` gives only the length, which lending the array
-// as a slice needs.
-fn room_for_calls() -> [u8; 352256]
+// Room for the calls of a piece, and for their journal. The `ensures` gives only the length, which lending the array as a slice needs.
+fn room_for_calls() -> [u8; PIECE_LINES * CALL_SIZE]
     ensures { 352256 ≡ length result }
 {
-    [0; 352256]
+    [0; PIECE_LINES * CALL_SIZE]
 }
 
-fn room_for_journal() -> [u8; 450560]
+fn room_for_journal() -> [u8; PIECE_LINES * LINE_SIZE]
     ensures { 450560 ≡ length result }
 {
-    [0; 450560]
+    [0; PIECE_LINES * LINE_SIZE]
 }
 
 // Runs the calls of the file.
-fn run_calls<R: Print + Eprint, F: Read>(
-    rt: &R,
+fn run_calls<'a, F: Read, L: Fn(&[u8]) -> Result<(), Failure<'a>>>(
     opened: Register,
-    printing: bool,
     file: &mut F,
-) -> Shift
-    requires { Kept opened }
-    ensures { Kept result.register }
+    on_lines: &L,
+) -> Result<Register, Failure<'a>>
+    requires opened { Kept opened }
+    requires on_lines { L.IsAlwaysCallable on_lines.now }
+    ensures { IfOk result (λ register. Kept register) }
 {
     let mut text = room_for_calls();
     let mut out = room_for_journal();
-    run_pieces(rt, opened, printing, file, &mut text, &mut out)
+    run_pieces(opened, file, &mut text, &mut out, on_lines)
 }
 
-// Makes the calls of the file `calls` on the board of the file `plan`, and prints their journal if asked; the answer to a refused plan is
-// printed in any case. The longest plan has 65 lines of 19 bytes; one byte more shows a text that is too long.
-pub fn run_folder<R: Files + Print + Eprint>(rt: &R, printing: bool) -> Shift
-    ensures { Kept result.register }
+// Makes the calls of the file `calls` on the board of the file `plan`, and hands their journal lines on as they come. Where the plan is refused there
+// is no register: its answer is printed.
+pub fn run_folder<'a, R: Files + Print, L: Fn(&[u8]) -> Result<(), Failure<'a>>>(
+    rt: &R,
+    on_lines: &L,
+) -> Result<Option<Register>, Failure<'a>>
+    requires { L.IsAlwaysCallable on_lines.now }
+    ensures { IfOk result (λ ran. IfSome ran (λ register. Kept register)) }
 {
-    let mut text = [0u8; 1236];
+    let mut text = [0; PLAN_SIZE];
     let filled = read_file(rt, b"plan", &mut text);
-    let n = filled.bytes;
-    let opened = board::open(&text[..n]);
-    let register = opened.register;
-    if filled.failed.is_some() {
-        return Shift {
-            register,
-            whole: false,
-        };
+    filled.check(b"plan")?;
+    let opened = board::open(&text[..filled.bytes]);
+    if let Err(refusal) = opened.answer {
+        print_number(rt, u16::from(refusal))?;
+        return Ok(None);
     }
-    if opened.answer != 0 {
-        print_number(rt, opened.answer);
-        return Shift {
-            register,
-            whole: false,
-        };
-    }
-    match open(rt, b"calls") {
-        Ok(mut file) => run_calls(rt, register, printing, &mut file),
-        Err(error) => {
-            say_failed(rt, b"calls", &error);
-            Shift {
-                register,
-                whole: false,
-            }
-        }
-    }
+    let mut file = open(rt, b"calls").map_err(|error| Failure::File {
+        name: b"calls",
+        error,
+    })?;
+    Ok(Some(run_calls(opened.register, &mut file, on_lines)?))
 }
 
 // Prints the journal of the files `plan` and `calls`.
 pub fn print_journal<R: Files + Print + Eprint>(rt: &R) {
-    run_folder(rt, true);
+    let ran = run_folder(rt, &|lines: &[u8]| print(rt, lines));
+    say_failure(rt, ran.map(|_register| ()));
 }

@@ -1,13 +1,16 @@
 // The files of a working folder: the board opened from `plan`, the calls of `calls` run on it, and the journal or the shift sheet printed. What
-// goes wrong outside documents 01 and 02 is said on standard error, with the file's name, and ends the run; standard output stays theirs.
+// goes wrong outside documents 01 and 02 is a `Failure`: it is said on standard error, with the file's name, and ends the run; standard output
+// stays theirs.
 #![tactic(auto)]
 
+mod failure;
 mod input;
 mod journal;
 mod output;
 mod page;
 
+pub use failure::{Failure, say_failure};
 pub use input::{Filled, read_file};
-pub use journal::print_journal;
+pub use journal::{PLAN_SIZE, print_journal};
 pub use output::{print, print_number};
 pub use page::{print_page, print_sheet};

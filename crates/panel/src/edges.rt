@@ -1,9 +1,9 @@
 // The cases that no file of calls can show: buffers of other lengths, for a line and for a page, and the last number allotted.
 ghost use Rattle.rules.specs.Step.{Kept};
 
+use crate::output::{print, print_number};
 use crate::scenario::{open_board, put_call, run_files};
-use folder::{print, print_number};
-use rules::{Register, Seven};
+use rules::{Register, Seven, answer_number};
 use std::rt::Files;
 
 // A REQUEST by officer 7 for an LPA over portion 1.
@@ -38,7 +38,7 @@ fn request_into<R: Print + Eprint>(rt: &R, register: Register, buffer: &mut [u8]
     ensures { Kept result }
 {
     let called = board::call(register, request(), buffer);
-    print_number(rt, called.answer);
+    print_number(rt, answer_number(called.answer));
     print(rt, buffer);
     print(rt, b"\n");
     called.register
@@ -61,9 +61,9 @@ fn request_and_withdraw(register: Register, number: u16) -> Register
     requires { Kept register }
     ensures { Kept result }
 {
-    let mut line = [0u8; 55];
-    let requested = board::call(register, request(), &mut line);
-    board::call(requested.register, withdraw(number), &mut line).register
+    let silent = |_line: &[u8]| ();
+    let requested = put_call(register, request(), &silent);
+    put_call(requested, withdraw(number), &silent)
 }
 
 // 9998 numbers allotted, and none live.
@@ -72,7 +72,7 @@ fn nearly_all_allotted(opened: Register) -> Register
     ensures { Kept result }
 {
     let mut register = opened;
-    for number in 1..9999u16 {
+    for number in 1..9999 {
         register = request_and_withdraw(register, number);
     }
     register
@@ -82,21 +82,20 @@ fn nearly_all_allotted(opened: Register) -> Register
 pub fn last_number<R: Files + Print + Eprint>(rt: &R) {
     print(rt, b"9999 numbers allotted\n");
     let opened = open_board(rt, b"plan-line");
-    let register = nearly_all_allotted(opened.register);
-    let register = put_call(rt, register, request(), true);
-    let register = put_call(rt, register, request(), true);
-    let register = put_call(rt, register, withdraw(9999), true);
-    let register = put_call(rt, register, request(), true);
-    put_call(rt, register, withdraw(9999), true);
+    let mut register = nearly_all_allotted(opened.register);
+    let calls = [request(), request(), withdraw(9999), request(), withdraw(9999)];
+    for seven in calls {
+        register = put_call(register, seven, &|line: &[u8]| print(rt, line));
+    }
 }
 
 // Writes the sheet into the buffer given; prints the answer and the number of lines, then the whole buffer as it comes back.
-fn sheet_into<R: Print + Eprint>(rt: &R, register: Register, buffer: &mut [u8])
-    requires { Kept register }
+fn sheet_into<R: Print + Eprint>(rt: &R, register: &Register, buffer: &mut [u8])
+    requires { Kept register.now }
 {
     let written = sheet::write_sheet(register, buffer);
-    print_number(rt, written.answer);
-    print_number(rt, (written.lines % 65536) as u16);
+    print_number(rt, answer_number(written));
+    print_number(rt, written.unwrap_or(0) as u16);
     print(rt, buffer);
     print(rt, b"\n");
 }
@@ -104,14 +103,15 @@ fn sheet_into<R: Print + Eprint>(rt: &R, register: Register, buffer: &mut [u8])
 // 2408 bytes give 23 and stay as they were; 2409 serve, and later bytes stay, also of 2500; with 32 authorities live 2409 are filled.
 pub fn pages<R: Files + Print + Eprint>(rt: &R) {
     print(rt, b"pages of 2408, 2409 and 2500 bytes\n");
-    let register = run_files(rt, b"plan-line", b"calls-e1-e6", false);
+    let silent = |_line: &[u8]| ();
+    let register = run_files(rt, b"plan-line", b"calls-e1-e6", &silent);
     let mut short = [46u8; 2408];
-    sheet_into(rt, register, &mut short);
+    sheet_into(rt, &register, &mut short);
     let mut just = [46u8; 2409];
-    sheet_into(rt, register, &mut just);
+    sheet_into(rt, &register, &mut just);
     let mut long = [46u8; 2500];
-    sheet_into(rt, register, &mut long);
+    sheet_into(rt, &register, &mut long);
     print(rt, b"a page of 33 lines in 2409 bytes\n");
-    let full = run_files(rt, b"plan-full", b"calls-sheet-32", false);
-    sheet_into(rt, full, &mut just);
+    let full = run_files(rt, b"plan-full", b"calls-sheet-32", &silent);
+    sheet_into(rt, &full, &mut just);
 }

@@ -6,15 +6,27 @@
 mod edges;
 mod held;
 mod list;
+mod output;
 mod scenario;
 
-use scenario::Shown;
+use held::print_held;
+use list::run_list;
+use output::{print, print_page};
+use scenario::run_files;
 
 fn main(rt: HostRuntime) {
-    list::run_list(&rt, b"scenarios", Shown::Journal);
-    edges::buffers(&rt);
-    edges::last_number(&rt);
-    list::run_list(&rt, b"sheets", Shown::Sheet);
-    edges::pages(&rt);
-    list::run_list(&rt, b"registers", Shown::Held);
+    let rt = &rt;
+    let silent = |_line: &[u8]| ();
+    run_list(rt, b"scenarios", &|plan: &[u8], calls: &[u8]| {
+        run_files(rt, plan, calls, &|line: &[u8]| print(rt, line));
+    });
+    edges::buffers(rt);
+    edges::last_number(rt);
+    run_list(rt, b"sheets", &|plan: &[u8], calls: &[u8]| {
+        print_page(rt, &run_files(rt, plan, calls, &silent));
+    });
+    edges::pages(rt);
+    run_list(rt, b"registers", &|plan: &[u8], calls: &[u8]| {
+        print_held(rt, &run_files(rt, plan, calls, &silent));
+    });
 }

@@ -1,113 +1,68 @@
-// One scenario: a board opened from a plan's file, the calls of a second file put to it one by one, and their journal printed, or the sheet after
-// them, or what the register then holds.
+// One scenario: a board opened from a plan's file, and the calls of a second file put to it one by one.
 ghost use Rattle.rules.specs.Step.{Kept};
 
-use crate::held::print_held;
-use folder::{print, print_number, print_page, read_file};
-use lines::{Line, read_line};
+use crate::output::{print, print_number, read};
+use folder::PLAN_SIZE;
+use lines::read_line;
 use rules::{Opened, Register, Seven};
 use std::rt::Files;
 
-// Opens a board from a plan's file. The longest plan has 65 lines of 19 bytes; one byte more shows a text that is too long.
+// Opens a board from a plan's file.
 pub fn open_board<R: Files + Eprint>(rt: &R, plan: &[u8]) -> Opened
     ensures { Kept result.register }
 {
-    let mut text = [0u8; 1236];
-    let filled = read_file(rt, plan, &mut text);
-    let n = filled.bytes;
-    board::open(&text[..n])
+    let mut text = [0; PLAN_SIZE];
+    board::open(read(rt, plan, &mut text))
 }
 
-// Puts one call to the board and prints its line, if asked.
-pub fn put_call<R: Print + Eprint>(
-    rt: &R,
-    register: Register,
-    seven: Seven,
-    printing: bool,
-) -> Register
-    requires { Kept register }
+// Puts one call to the board, and hands its journal line on.
+pub fn put_call<L: Fn(&[u8])>(register: Register, seven: Seven, on_line: &L) -> Register
+    requires kept { Kept register }
+    requires on_line { L.IsAlwaysCallable on_line.now }
     ensures { Kept result }
 {
-    let mut line = [0u8; 55];
+    let mut line = [0; 55];
     let called = board::call(register, seven, &mut line);
-    if printing {
-        print(rt, &line);
-    }
+    on_line(&line);
     called.register
 }
 
-// Reads a call line, 43 bytes, and puts its call to the board.
-fn put_line<R: Print + Eprint>(rt: &R, register: Register, text: &[u8], printing: bool) -> Register
-    requires { Kept register }
-    ensures { Kept result }
-{
-    let Line::Call(seven) = read_line(text) else {
-        print(rt, b"malformed\n");
-        return register;
-    };
-    put_call(rt, register, seven, printing)
-}
-
-// Puts the calls to the board, line by line.
-fn put_lines<R: Print + Eprint>(rt: &R, opened: Register, calls: &[u8], printing: bool) -> Register
-    requires { Kept opened }
+// Puts the calls to the board, a line of 43 bytes each, and hands their journal lines on.
+fn put_lines<R: Print + Eprint, L: Fn(&[u8])>(
+    rt: &R,
+    opened: Register,
+    calls: &[u8],
+    on_line: &L,
+) -> Register
+    requires kept { Kept opened }
+    requires on_line { L.IsAlwaysCallable on_line.now }
     ensures { Kept result }
 {
     let mut register = opened;
     for line in calls.chunks_exact(43) {
-        register = put_line(rt, register, line, printing);
+        match read_line(line) {
+            Some(seven) => register = put_call(register, seven, on_line),
+            None => print(rt, b"malformed\n"),
+        }
     }
     register
 }
 
-// Opens a board from a plan's file, prints the answer if it is refused, and puts at most 100 calls to it, their journal printed if asked.
-pub fn run_files<R: Files + Print + Eprint>(
+// Opens a board from a plan's file, prints the answer if it is refused, and puts at most 100 calls to it, whose journal lines it hands on.
+pub fn run_files<R: Files + Print + Eprint, L: Fn(&[u8])>(
     rt: &R,
     plan: &[u8],
     calls: &[u8],
-    printing: bool,
+    on_line: &L,
 ) -> Register
+    requires { L.IsAlwaysCallable on_line.now }
     ensures { Kept result }
 {
     let opened = open_board(rt, plan);
-    if opened.answer != 0 {
-        print_number(rt, opened.answer);
+    if let Err(refusal) = opened.answer {
+        print_number(rt, u16::from(refusal));
     }
-    let mut text = [0u8; 4300];
-    let filled = read_file(rt, calls, &mut text);
-    let n = filled.bytes;
-    put_lines(rt, opened.register, &text[..n], printing)
-}
-
-// What is printed of a scenario.
-#[derive(Clone, Copy)]
-pub enum Shown {
-    // the journal of its calls
-    Journal,
-    // the shift sheet after them
-    Sheet,
-    // what the register then holds, in its order
-    Held,
-}
-
-// Prints the heading, and what is to be shown.
-pub fn scenario<R: Files + Print + Eprint>(
-    rt: &R,
-    heading: &[u8],
-    plan: &[u8],
-    calls: &[u8],
-    shown: Shown,
-) {
-    print(rt, heading);
-    match shown {
-        Shown::Journal => {
-            run_files(rt, plan, calls, true);
-        }
-        Shown::Sheet => {
-            print_page(rt, run_files(rt, plan, calls, false));
-        }
-        Shown::Held => {
-            print_held(rt, run_files(rt, plan, calls, false));
-        }
-    }
+    let mut text = [0; 100 * 43];
+    let calls = read(rt, calls, &mut text);
+    put_lines(rt, opened.register, calls, on_line)
 }

@@ -3,23 +3,12 @@
 
 ghost use Rattle.std.specs.Prelude.{◌*◌, ◌^◌, ◌<◌, ◌≡◌, true};
 ghost use Rattle.cells.specs.Cells.{cell_fits, cells_fit};
-ghost use Rattle.rules.specs.Board.{kind_no, board_of};
+ghost use Rattle.rules.specs.Board.{board_of};
 ghost use Rattle.rules.specs.Sheet.{stage_no, site_no, minutes_in_hand, authority_cells, authority_widths};
 ghost use Rattle.rules.specs.Sheet.{held_portions, total_cells, total_widths};
 
 use cells::{Cell, difference};
-use rules::{Authority, Kind, Register};
-
-// 1 LPA, 2 TOA, 3 TWA.
-fn kind_no(kind: Kind) -> u32
-    ensures { result ≡ kind_no kind }
-{
-    match kind {
-        Kind::Lpa => 1,
-        Kind::Toa => 2,
-        Kind::Twa => 3,
-    }
-}
+use rules::{Authority, Register};
 
 // 1 pending, 2 in force.
 fn stage_no(a: Authority) -> u32
@@ -43,7 +32,7 @@ fn minutes_in_hand(a: Authority, now: u32) -> Cell
     if a.length == 0 {
         return Cell::Empty;
     }
-    difference(a.start + a.length as u32, now)
+    difference(a.start + u32::from(a.length), now)
 }
 
 // The line of a live authority; its last cell is the authority whose officer's agreement it rests on, 0 for none.
@@ -51,17 +40,16 @@ pub fn authority_cells(a: Authority, now: u32) -> [Cell; 9]
     requires { (a.start < 10000 * 1440) × (now < 10 ^ 8) }
     ensures { (result ≡ authority_cells now a) × (cells_fit authority_widths result ≡ true) }
 {
-    let kind = a.kind;
     [
-        Cell::Number(a.number.0 as u32),
-        Cell::Number(kind_no(kind)),
+        Cell::Number(u32::from(a.number.0)),
+        Cell::Number(u32::from(u16::from(a.kind))),
         Cell::Number(portions::least(a.limits)),
         Cell::Number(portions::greatest(a.limits)),
-        Cell::Number(a.officer as u32),
+        Cell::Number(u32::from(a.officer)),
         Cell::Number(stage_no(a)),
         Cell::Number(site_no(a)),
         minutes_in_hand(a, now),
-        Cell::Number(a.agreed.0 as u32),
+        Cell::Number(u32::from(a.agreed.0)),
     ]
 }
 

@@ -7,11 +7,14 @@ use contract.Lifetimes.{Lfts}
 use denote.Triple.Clauses.{AtExit}
 use borrow.Fn.Kinds.{Dens, ended_of}
 use lib.ListN.{length, drop, get_or}
+use Rattle.std.specs.Prelude.{Result}
 use Rattle.lists.proofs.Search.{Member}
 use Rattle.portions.specs.Sets.{least, greatest}
 use Rattle.cells.specs.declared.Cell.TheVariants.{Empty, Number}
 use Rattle.rules.specs.declared.Authority.{Authority}
 use Rattle.rules.specs.declared.Register.{Register}
+use Rattle.rules.specs.declared.refusal.Refusal.{Refusal}
+use Rattle.rules.specs.Answer.{answer_no, lines_no}
 use Rattle.rules.specs.Board.{Board, board_of, authority_no}
 use Rattle.rules.specs.Plan.{open_board}
 use Rattle.rules.specs.Step.{Made, Answered, final}
@@ -19,7 +22,6 @@ use Rattle.rules.specs.Reckoning.{start, agreement, reckoned}
 use Rattle.rules.specs.Sheet.{now_of, authority_cells, sheet_lines, sheet}
 use Rattle.rules.proofs.Sheets.{first-last, Ascend, lines_ascend}
 use Rattle.board.proofs.Ran.{Ran, ran_kept, ran_ascending, ran_board, ran_trace, ran_agreements}
-use Rattle.sheet.specs.declared.page.Written.{Written}
 use Rattle.sheet.proofs.page.write_sheet.Kinds as kinds
 use Rattle.sheet.proofs.page.write_sheet.Reads as reads
 
@@ -53,7 +55,7 @@ ran_agreement_shown h o m = ap Number (ran_agreements h o m).number
 
 -- ---- what `write_sheet` leaves, of any register and buffer
 
-module _ (κs : Lfts 2) (a : Dens κs kinds.ps) (out : Written) (x : AtExit (ended_of 2 kinds.ps kinds.r) κs) (p : reads.Post κs a out x) where
+module _ (κs : Lfts 2) (a : Dens κs kinds.ps) (out : Result ℕ Refusal) (x : AtExit (ended_of 2 kinds.ps kinds.r) κs) (p : reads.Post κs a out x) where
   abbrev buffer : List ℕ
   buffer = a.1.0.now
 
@@ -61,7 +63,7 @@ module _ (κs : Lfts 2) (a : Dens κs kinds.ps) (out : Written) (x : AtExit (end
   buffer' = x.1.0.now
 
   -- too short a buffer: 23, no line, and the bytes stay
-  pub short_sheet : length buffer < 2409 → (out.answer ≡ 23) × (out.lines ≡ 0) × (buffer' ≡ buffer)
+  pub short_sheet : length buffer < 2409 → (answer_no out ≡ 23) × (lines_no out ≡ 0) × (buffer' ≡ buffer)
   short_sheet h =
       let e = lt-ltb (length buffer) 2409 h in
       (p.answered ∙ rw e, p.counted ∙ rw e, p.bytes ∙ rw e)
@@ -69,7 +71,7 @@ module _ (κs : Lfts 2) (a : Dens κs kinds.ps) (out : Written) (x : AtExit (end
   -- THEOREM: after any run a buffer that is long enough has the sheet of the board that the rules give after its calls, and later bytes stay
   pub ran_sheet : {text : List ℕ} {ms : List Made} {cs : List Answered} → Ran text ms cs a.0.now → 2409 ≤ length buffer
       → let b = final (open_board text) ms in
-      (out.answer ≡ 0) × (out.lines ≡ length (sheet_lines b)) × (buffer' ≡ sheet b ++ drop (length (sheet b)) buffer)
+      (answer_no out ≡ 0) × (lines_no out ≡ length (sheet_lines b)) × (buffer' ≡ sheet b ++ drop (length (sheet b)) buffer)
   ran_sheet h l =
       let e = le-ltb (length buffer) 2409 l in
       let b = ran_board h in

@@ -3,4 +3,4 @@
 
 mod page;
 
-pub use page::{Written, write_sheet};
+pub use page::write_sheet;

@@ -1,21 +1,14 @@
 // The page: a line for each live authority in the register's order, and the last line, in a lent buffer.
 ghost use Rattle.std.specs.Prelude.{◌*◌, ◌≤◌, ◌≡◌, true, ◌++◌, map, length, drop};
 ghost use Rattle.cells.specs.Cells.{cell_line, cells_fit};
+ghost use Rattle.rules.specs.Answer.{answer_no, lines_no};
 ghost use Rattle.rules.specs.Call.{minute_of};
 ghost use Rattle.rules.specs.Step.{Kept};
 ghost use Rattle.rules.specs.Sheet.{authority_line, page_of, SheetPost};
 
 use cells::Cell;
 use rows::{authority_cells, total_cells};
-use rules::Register;
-use rules::refusal::SHORT_PAGE;
-
-// 0 or the refusal, and how many lines were written.
-#[derive(Clone, Copy)]
-pub struct Written {
-    pub answer: u16,
-    pub lines: usize,
-}
+use rules::{Refusal, Register};
 
 // A line has 72 columns and a line feed; a page has 33 lines at most.
 const LINE_SIZE: usize = 73;
@@ -59,17 +52,14 @@ fn write_authorities(register: &Register, page: &mut [u8])
     }
 }
 
-// Writes the sheet of a register to the front of the buffer: 0 and the number of lines, and later bytes stay. A buffer
-// that is shorter than a page gives 23 and stays as it was.
-pub fn write_sheet(register: &Register, page: &mut [u8]) -> Written
+// Writes the sheet of a register to the front of the buffer, and gives the number of lines; later bytes stay. A buffer
+// that is shorter than a page is refused and stays as it was.
+pub fn write_sheet(register: &Register, page: &mut [u8]) -> Result<usize, Refusal>
     requires { Kept register.now }
-    ensures { SheetPost register.now page.old result.answer result.lines page.new }
+    ensures { SheetPost register.now page.old (answer_no result) (lines_no result) page.new }
 {
     if page.len() < PAGE_SIZE {
-        return Written {
-            answer: SHORT_PAGE,
-            lines: 0,
-        };
+        return Err(Refusal::ShortPage);
     }
     write_authorities(register, page);
     let live = register.authorities.len();
@@ -79,8 +69,5 @@ pub fn write_sheet(register: &Register, page: &mut [u8]) -> Written
         &TOTAL_WIDTHS,
         &total_cells(register),
     );
-    Written {
-        answer: 0,
-        lines: live + 1,
-    }
+    Ok(live + 1)
 }

@@ -4,11 +4,11 @@ use Rattle.std.proofs.Math.Seq.{length-take-le}
 use Rattle.sheet.proofs.Pages.{lines_few}
 use Rattle.folder.proofs.page.print_page.Goals as goal
 
-pub overflow_mul-n : goal.overflow_mul-n
-overflow_mul-n g c = omega (arith, lines_few c.requires c.write_sheet-written.ensures)
+pub overflow_mul-page : goal.overflow_mul-page
+overflow_mul-page g c = omega (arith, lines_few c.requires c.in-Ok.ensures)
 
 pub slice_bounds-page-end : goal.slice_bounds-page-end
-slice_bounds-page-end g c = omega (arith, lines_few c.requires c.write_sheet-written.ensures)
+slice_bounds-page-end g c = omega (arith, lines_few c.requires c.in-Ok.ensures)
 
 pub slice_bounds-print-end : goal.slice_bounds-print-end
-slice_bounds-print-end g c = sym (length-take-le _ _ (omega (arith, lines_few c.requires c.write_sheet-written.ensures)))
+slice_bounds-print-end g c = sym (length-take-le _ _ (omega (arith, lines_few c.requires c.in-Ok.ensures)))

@@ -1,0 +1,30 @@
+// Reading and printing where the panel goes on after what fails: it is said, on standard error.
+use folder::{read_file, say_failure};
+use rules::Register;
+use std::rt::Files;
+
+ghost use Rattle.rules.specs.Step.{Kept};
+
+// Reads the file of that name to the front of the buffer, and gives what was read.
+pub fn read<'a, R: Files + Eprint>(rt: &R, name: &[u8], buf: &'a mut [u8]) -> &'a [u8] {
+    let filled = read_file(rt, name, buf);
+    say_failure(rt, filled.check(name));
+    &buf[..filled.bytes]
+}
+
+// Prints the text.
+pub fn print<R: Print + Eprint>(rt: &R, text: &[u8]) {
+    say_failure(rt, folder::print(rt, text));
+}
+
+// Prints a number in 6 columns and a line feed.
+pub fn print_number<R: Print + Eprint>(rt: &R, n: u16) {
+    say_failure(rt, folder::print_number(rt, n));
+}
+
+// Prints the sheet of a register.
+pub fn print_page<R: Print + Eprint>(rt: &R, register: &Register)
+    requires { Kept register.now }
+{
+    say_failure(rt, folder::print_page(rt, register));
+}
