@@ -117,6 +117,7 @@ fn fill_line(t: &mut [u8], widths: &[u8], numbers: &[u32])
 // Writes the numbers, each in columns of its width, and a line feed to the front of the buffer; later bytes stay.
 // False, and no byte changed, where there are not as many numbers as widths, one does not fit its width, or the
 // buffer is too short.
+// Kept: a bool, and no Option or Result: there is no value and no reason beside it.
 pub fn write_line(buf: &mut [u8], widths: &[u8], numbers: &[u32]) -> bool
     ensures { Written widths.now numbers.now buf.old buf.new result }
 {
