@@ -83,7 +83,13 @@ pub fn last_number<R: Files + Print + Eprint>(rt: &R) {
     print(rt, b"9999 numbers allotted\n");
     let opened = open_board(rt, b"plan-line");
     let mut register = nearly_all_allotted(opened.register);
-    let calls = [request(), request(), withdraw(9999), request(), withdraw(9999)];
+    let calls = [
+        request(),
+        request(),
+        withdraw(9999),
+        request(),
+        withdraw(9999),
+    ];
     for seven in calls {
         register = put_call(register, seven, &|line: &[u8]| print(rt, line));
     }
@@ -93,9 +99,12 @@ pub fn last_number<R: Files + Print + Eprint>(rt: &R) {
 fn sheet_into<R: Print + Eprint>(rt: &R, register: &Register, buffer: &mut [u8])
     requires { Kept register.now }
 {
-    let written = sheet::write_sheet(register, buffer);
-    print_number(rt, answer_number(written));
-    print_number(rt, written.unwrap_or(0) as u16);
+    let (answer, lines) = match sheet::write_sheet(register, buffer) {
+        Ok(lines) => (0, lines as u16),
+        Err(refusal) => (u16::from(refusal), 0),
+    };
+    print_number(rt, answer);
+    print_number(rt, lines);
     print(rt, buffer);
     print(rt, b"\n");
 }

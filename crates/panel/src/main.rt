@@ -17,16 +17,28 @@ use scenario::run_files;
 fn main(rt: HostRuntime) {
     let rt = &rt;
     let silent = |_line: &[u8]| ();
-    run_list(rt, b"scenarios", &|plan: &[u8], calls: &[u8]| {
-        run_files(rt, plan, calls, &|line: &[u8]| print(rt, line));
-    });
+    run_list(
+        rt,
+        b"scenarios",
+        &|plan: &[u8], calls: &[u8]| {
+            run_files(rt, plan, calls, &|line: &[u8]| print(rt, line));
+        },
+    );
     edges::buffers(rt);
     edges::last_number(rt);
-    run_list(rt, b"sheets", &|plan: &[u8], calls: &[u8]| {
-        print_page(rt, &run_files(rt, plan, calls, &silent));
-    });
+    run_list(
+        rt,
+        b"sheets",
+        &|plan: &[u8], calls: &[u8]| {
+            print_page(rt, &run_files(rt, plan, calls, &silent));
+        },
+    );
     edges::pages(rt);
-    run_list(rt, b"registers", &|plan: &[u8], calls: &[u8]| {
-        print_held(rt, &run_files(rt, plan, calls, &silent));
-    });
+    run_list(
+        rt,
+        b"registers",
+        &|plan: &[u8], calls: &[u8]| {
+            print_held(rt, &run_files(rt, plan, calls, &silent));
+        },
+    );
 }

@@ -1,9 +1,9 @@
 // Reading and printing where the panel goes on after what fails: it is said, on standard error.
+ghost use Rattle.rules.specs.Step.{Kept};
+
 use folder::{read_file, say_failure};
 use rules::Register;
 use std::rt::Files;
-
-ghost use Rattle.rules.specs.Step.{Kept};
 
 // Reads the file of that name to the front of the buffer, and gives what was read.
 pub fn read<'a, R: Files + Eprint>(rt: &R, name: &[u8], buf: &'a mut [u8]) -> &'a [u8] {
