@@ -47,7 +47,8 @@ fn closed() -> Register
     })
 }
 
-// Opens a board from a plan's text, of any bytes and any length; a text that is none is refused with 20, and gives the closed board.
+// Opens a board from a plan's text, of any bytes and any length; a text that is none is refused with 20, and gives the
+// closed board.
 pub fn open(text: &[u8]) -> Opened
     ensures { OpenPost text.now result }
 {
@@ -82,9 +83,9 @@ fn write_journal(line: &mut [u8], s: Seven, answer: Answer)
     columns::write_line(line, &[6; 9], &numbers);
 }
 
-// Kept: `requires { Kept register }` here and above, and no ghost field of Register: an effect by itself doesn't keep
-// a register so; only the whole of what the answer says of the call does, at the end of `take`.
 // Takes one call: any seven numbers, any buffer for its line. A buffer under 55 bytes gives 1 and stays as it was.
+// Kept: `requires { Kept register }`, here and above, as the architecture has it of each entry. An invariant of Register
+// would be asked of the effects too, which promise theirs for any register, also where the call would be refused.
 pub fn call(mut register: Register, seven: Seven, line: &mut [u8]) -> Called
     requires { Kept register }
     ensures { CallPost register seven line.old result line.new }

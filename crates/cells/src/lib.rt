@@ -1,5 +1,5 @@
-// A cell of a page: a number, a number behind a minus sign, or nothing, right-justified in fixed columns of a lent text;
-// and a difference as a cell.
+// A cell of a page: a number, a number behind a minus sign, or nothing, right-justified in fixed columns of a lent
+// text; and a difference as a cell.
 #![tactic(auto)]
 
 ghost use Rattle.std.specs.Prelude.{◌≡◌, true, length, replicate};
@@ -54,6 +54,7 @@ fn fill_minus(t: &mut [u8], n: u32)
 }
 
 // Fills the whole slice with a cell. False, and no byte changed, where the cell does not fit.
+// Kept: a bool, as columns' `write_line`.
 #[tactic(auto, using(crate::proofs::Cells::cell_kinds))]
 pub fn fill_cell(t: &mut [u8], c: Cell) -> bool
     ensures { Cells.Filled t.old c t.new result }

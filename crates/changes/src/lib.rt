@@ -59,7 +59,8 @@ pub fn withdraw(register: &mut Register, n: AuthorityNo)
 }
 
 pub fn agree(register: &mut Register, toa: AuthorityNo, twa: AuthorityNo)
-    ensures { (officer : ℕ) → board_of register.new ≡ effect (board_of register.old) (Some (Call.Agree toa twa officer)) }
+    ensures { (officer : ℕ) → board_of register.new
+        ≡ effect (board_of register.old) (Some (Call.Agree toa twa officer)) }
 {
     change(
         &mut register.authorities,
@@ -134,7 +135,8 @@ pub fn term(register: &mut Register, n: AuthorityNo, day: u16, time: u16, length
 }
 
 pub fn join(register: &mut Register, twa: AuthorityNo, toa: AuthorityNo)
-    ensures { (officer distance : ℕ) → board_of register.new ≡ effect (board_of register.old) (Some (Call.Join twa toa officer distance)) }
+    ensures { (officer distance : ℕ) → board_of register.new
+        ≡ effect (board_of register.old) (Some (Call.Join twa toa officer distance)) }
 {
     change(
         &mut register.authorities,

@@ -1,4 +1,5 @@
-// Numbers in fixed columns of text, right-justified behind blanks: columns and lines of them written. `reading` reads them.
+// Numbers in fixed columns of text, right-justified behind blanks: columns and lines of them written. `reading` reads
+// them.
 #![tactic(auto)]
 
 mod write;

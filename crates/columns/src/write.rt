@@ -58,6 +58,7 @@ fn fill(t: &mut [u8], n: u32)
 }
 
 // Fills the whole slice with a number right-justified behind blanks. False, and no byte changed, where it does not fit.
+// Kept: a bool, as `write_line` below.
 pub fn fill_column(t: &mut [u8], n: u32) -> bool
     ensures { ColumnFilled t.old n t.new result }
 {

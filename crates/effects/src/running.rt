@@ -15,7 +15,8 @@ use lists::change;
 use rules::{Authority, AuthorityNo, GateNo, Register, Train, TrainNo};
 
 pub fn fulfil(register: &mut Register, n: AuthorityNo)
-    ensures { (officer assurances : ℕ) → board_of register.new ≡ effect (board_of register.old) (Some (Call.Fulfil n officer assurances)) }
+    ensures { (officer assurances : ℕ) → board_of register.new
+        ≡ effect (board_of register.old) (Some (Call.Fulfil n officer assurances)) }
 {
     end_authority(&mut register.authorities, n);
     change(
@@ -50,7 +51,8 @@ fn authority_after(head: u16, new: AuthorityNo, limits: u64) -> AuthorityNo
 }
 
 pub fn continue_as(register: &mut Register, old: AuthorityNo, new: AuthorityNo)
-    ensures { (officer_old officer_new : ℕ) → board_of register.new ≡ effect (board_of register.old) (Some (Call.Continue old new officer_old officer_new)) }
+    ensures { (officer_old officer_new : ℕ) → board_of register.new
+        ≡ effect (board_of register.old) (Some (Call.Continue old new officer_old officer_new)) }
 {
     let limits = limits_of(&register.authorities, new);
     end_authority(&mut register.authorities, old);

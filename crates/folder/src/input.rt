@@ -29,6 +29,7 @@ impl Filled {
 }
 
 // Reads until the buffer is full, the file ends or a read fails: what was read stands at the front of the buffer.
+// Kept: a `while`: it goes on until the buffer is full, the file ends or a read fails, and no iterator gives that.
 pub fn fill<F: Read>(file: &mut F, buf: &mut [u8]) -> Filled
     ensures count { IsPrefixLen result.bytes buf.new }
     ensures front { Consumes (F.remaining file.old) (F.remaining file.new) (take result.bytes buf.new) }
@@ -61,7 +62,8 @@ pub fn open<R: Files>(rt: &R, name: &[u8]) -> io::Result<R::File> {
     }
 }
 
-// Reads the file of that name to the front of the buffer, as much of it as there is room for. A file that cannot be opened has nothing.
+// Reads the file of that name to the front of the buffer, as much of it as there is room for. A file that cannot be
+// opened has nothing.
 pub fn read_file<R: Files>(rt: &R, name: &[u8], buf: &mut [u8]) -> Filled
     ensures { IsPrefixLen result.bytes buf.new }
 {

@@ -28,6 +28,7 @@ fn is_mark(due: bool, byte: u8) -> bool
 
 // The number in the six bytes from at. A digit is due from the number's first one on, so no test depends on an earlier
 // one's outcome: this is the hot path of reading a journal, and its bytes are tested with no branch between them.
+// Kept: beside reading's `read_column`, for any width, which takes half as many instructions again.
 fn read_six(text: &[u8], at: usize) -> Option<u16>
     requires { at + 6 ≤ length text.now }
     ensures { result ≡ read_column 65535 (take 6 (drop at text.now)) }

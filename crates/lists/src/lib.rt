@@ -1,5 +1,5 @@
-// Searches in lists and changes of lists, over any type of element: definitions (specs/) and laws (proofs/), and the change of the elements that
-// pass a test.
+// Searches in lists and changes of lists, over any type of element: definitions (specs/) and laws (proofs/), and the
+// change of the elements that pass a test.
 #![tactic(auto)]
 
 ghost use Rattle.lists.specs.Each.{ChangedWhere};

@@ -55,7 +55,8 @@ pub fn answer_move(
     officer: u16,
 ) -> Result<(), Refusal>
     ensures { answer_no result
-        ≡ lowest (move_refusals (board_of register.now) t.0 g.0 (gate_at (board_of register.now).gates g.0) n.0 officer) }
+        ≡ lowest (
+        move_refusals (board_of register.now) t.0 g.0 (gate_at (board_of register.now).gates g.0) n.0 officer) }
 {
     let gate = gates::gate_at(&register.gates, g);
     let e = authorities::exclusive_at(&register.authorities, gate.to);

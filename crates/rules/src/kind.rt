@@ -27,7 +27,8 @@ pub struct NoSuchKind;
 impl TryFrom<u16> for Kind {
     type Error = NoSuchKind;
 
-    ghost try_from_gives = { λ number r. MatchResult r (λ kind. kind_no kind ≡ number) (λ _. (kind : Kind) → kind_no kind ≢ number) };
+    ghost try_from_gives = { λ number r.
+        MatchResult r (λ kind. kind_no kind ≡ number) (λ _. (kind : Kind) → kind_no kind ≢ number) };
 
     fn try_from(number: u16) -> Result<Kind, NoSuchKind> {
         match number {

@@ -1,5 +1,5 @@
-// The types that the rules and the code share, and the refusals by name. Documents 01 and 02 stand in specs/ as definitions, the
-// theorems in proofs/.
+// The types that the rules and the code share, and the refusals by name. Documents 01 and 02 stand in specs/ as
+// definitions, the theorems in proofs/.
 #![tactic(auto)]
 
 ghost use Rattle.std.specs.Prelude.{◌≡◌};
@@ -12,7 +12,8 @@ use arrayvec::ArrayVec;
 pub use kind::Kind;
 pub use refusal::Refusal;
 
-// The four kinds of number that are never taken for one another: those of authorities, of trains, of gates, and of the papers that book a gate out of use.
+// The four kinds of number that are never taken for one another: those of authorities, of trains, of gates, and of the
+// papers that book a gate out of use.
 #[derive(Clone, Copy, Debug, Default, PartialEq, Eq)]
 pub struct AuthorityNo(pub u16);
 
@@ -164,15 +165,17 @@ pub struct Gate {
     pub kind: u16,
 }
 
-// A gate's booking: the paper that it is booked out of use under, 0 where it isn't out, and the paper that this one replaced, or 0.
+// A gate's booking: the paper that it is booked out of use under, 0 where it isn't out, and the paper that this one
+// replaced, or 0.
 #[derive(Clone, Copy, Debug, Default, PartialEq, Eq)]
 pub struct Booking {
     pub paper: PaperNo,
     pub replaced: PaperNo,
 }
 
-// A live authority. The limits are a set of portions (crate portions); agreed is the authority whose officer's agreement it rests on, a TWA's TOA
-// by AGREE and a TOA's TWA by JOIN, or 0; start is the minute in which its term starts and length the term's minutes, both 0 where it has none.
+// A live authority. The limits are a set of portions (crate portions); agreed is the authority whose officer's
+// agreement it rests on, a TWA's TOA by AGREE and a TOA's TWA by JOIN, or 0; start is the minute in which its term
+// starts and length the term's minutes, both 0 where it has none.
 #[derive(Clone, Copy, Debug, Default, PartialEq, Eq)]
 pub struct Authority {
     pub number: AuthorityNo,
@@ -195,8 +198,9 @@ pub struct Train {
     pub with: AuthorityNo,
 }
 
-// The board's whole state: the gates of the plan by number, and the booking of each; the live authorities and the trains on the board, by ascending
-// number. blocks is a set of gates; last is the last number allotted; day and time are the stamp of the last accepted call.
+// The board's whole state: the gates of the plan by number, and the booking of each; the live authorities and the
+// trains on the board, by ascending number. blocks is a set of gates; last is the last number allotted; day and time
+// are the stamp of the last accepted call.
 // Kept: gates and bookings are two lists: the plan's gates never change, and the reckoning reads them alone; in one
 // list each clause on gates would be of a list that is mapped.
 #[derive(Drop)]

@@ -1,4 +1,5 @@
-// The refusals by document 01's words, each with its number; 21 and 22 are 02's order 1, 23 its order 2, 24 its order 4, 25 its order 6.
+// The refusals by document 01's words, each with its number; 21 and 22 are 02's order 1, 23 its order 2, 24 its order
+// 4, 25 its order 6.
 ghost use Rattle.std.specs.Prelude.{◌≡◌};
 ghost use Rattle.rules.specs.Answer.{refusal_no};
 
