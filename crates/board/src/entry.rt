@@ -21,7 +21,7 @@ fn fresh(plan: Plan) -> Register
         replaced: PaperNo(0),
     };
     let mut bookings = ArrayVec::new();
-    for _gate in 0..plan.gates.len() {
+    for _gate in plan.gates.as_slice() {
         bookings.push(none);
     }
     Register {

@@ -6,7 +6,7 @@ use mathlib.Core.Path.{◌≡◌, refl, sym, ap, ◌∙◌}
 use mathlib.Core.Bool.{Bool, true, false}
 use mathlib.Core.List.{List, [], ◌++◌, append_assoc, append-nil}
 use lib.ListN.{length, take, drop, length-append, length-take, length-drop, take-append-drop}
-use lib.Seq.{length-take-le, take_at, drop_at, drop-drop}
+use lib.Seq.{length-take-le, take_at, drop-drop}
 use mathlib.Core.Logic.{◌⊎◌, inl, inr}
 use Rattle.std.proofs.lemmas.Bool.{cases_lt}
 use borrow.Rule.Slice.PartMut.{mid_of, put_mid, post_of, same_len_mid, mid_len, drop_put}
@@ -21,16 +21,6 @@ use Rattle.lines.proofs.Texts.{call_length}
 use Rattle.calls.proofs.Parts.{going, line_on, run_none, run_malformed, run_call}
 
 -- ---- the line from a place on
-
--- a chunk of 43 bytes off what is left of the text behind k lines is the next line
-pub next_line : (k : ℕ) (text line rest rest' : List ℕ) → rest ≡ drop (43 * k) text → rest ≡ line ++ rest' → length line ≡ 43
-    → (line ≡ take 43 (drop (43 * k) text)) × (rest' ≡ drop (43 * (k + 1)) text) × (43 * k + 43 ≤ length text)
-next_line k text line rest rest' d e l =
-    let next : 43 * (k + 1) ≡ 43 * k + 43 = omega arith in (
-      rw (← d, e) (sym (take_at line rest' 43 l)),
-      rw (next, ← drop-drop 43 (43 * k) text, ← d, e) (sym (drop_at line rest' 43 l)),
-      omega (arith, length-drop (43 * k) text, ap length d, ap length e, length-append line rest'),
-    )
 
 -- fewer bytes than a line has
 short_malformed : (at : ℕ) (text : List ℕ) → length text < at + 43 → line_in (take 43 (drop at text)) ≡ None

@@ -10,7 +10,7 @@ use borrow.Author.Rules.{part_to_end}
 use mathlib.Core.Logic.{inl, inr}
 use Rattle.std.proofs.lemmas.List.{take_all}
 use lib.Dec.{eqb, leb}
-use lib.ListN.{length, take, drop, get_or, length-append, length-drop}
+use lib.ListN.{length, take, drop, get_or, length-take, length-drop}
 use lib.Seq.{drop-drop}
 use Rattle.std.specs.Prelude.{Option, Some, None}
 use Rattle.lists.proofs.Tests.{told, lt_or_le}
@@ -140,48 +140,59 @@ pub gate_some : (portions : ℕ) (text ns : List ℕ) (t : Bool) → Some ns ≡
 unfolding gate_in is_gate gate_on
 gate_some portions text ns t e h = let k = line_three text ns e in rw (k.whole, k.x, k.y, k.z, ← h, ← and_assoc)
 
+-- a gate stands on a text's first line alone
+first_line : (portions : ℕ) (text : List ℕ) → gate_in portions (take 19 text) ≡ gate_in portions text
+unfolding gate_in is_gate gate_on plan_number plan_line
+first_line portions text = rw (take_all 19 (take 19 text) (omega (arith, length-take 19 text)))
+
 -- ---- the lines of gates, i of them read
 module _ (portions count : ℕ) (text : List ℕ) where
   pub record SoFar (i : ℕ) (gates : List Gate) : Type 0 where
     pub long : length text ≡ 19 * count
-    pub held : length gates ≡ i
     pub tested : are_gates portions count text ≡ are_gates portions (count - i) (drop (19 * i) text)
     pub read : gates_on count text ≡ gates ++ gates_on (count - i) (drop (19 * i) text)
 
   pub none_yet : length text ≡ 19 * count → SoFar 0 []
-  none_yet h = record { long = h; held = refl; tested = rw sub-zero; read = rw sub-zero }
+  none_yet h = record { long = h; tested = rw sub-zero; read = rw sub-zero }
 
   module _ (i : ℕ) (gates : List Gate) (so_far : SoFar i gates) where
-    pub all_read : count ≤ i → (true ≡ are_gates portions count text) × (gates ≡ gates_on count text)
+    -- no line is left
+    pub all_read : (i < count → length text < 19 * i + 19) → (true ≡ are_gates portions count text) × (gates ≡ gates_on count text)
     unfolding are_gates gates_on
-    all_read h =
-        let none : count - i ≡ 0 = omega arith in
-        (sym (so_far.tested ∙ rw none), sym (so_far.read ∙ rw (none, append-nil)))
+    all_read short = elim (lt_or_le i count) [
+      | inl l ↦ absurd (omega (arith, short l, so_far.long))
+      | inr l ↦
+          let none : count - i ≡ 0 = omega arith in
+          (sym (so_far.tested ∙ rw none), sym (so_far.read ∙ rw (none, append-nil)))
+    ]
 
-    -- line i: the code takes it as the text from its place on
-    module _ (more : i < count) where
+    -- line i
+    module _ (line : List ℕ) (of : line ≡ take 19 (drop (19 * i) text)) (more : i < count) where
       here : List ℕ
       here = drop (19 * i) text
 
       next : count - i ≡ suc (count - (i + 1))
       next = omega arith
 
-      pub not_gate : None ≡ gate_in portions (take (length text - 19 * i) (drop (19 * i) text)) → false ≡ are_gates portions count text
+      gate_here : gate_in portions line ≡ gate_in portions here
+      unfolding here gate_in
+      gate_here = ap (gate_in portions) of ∙ first_line portions here
+
+      pub not_gate : None ≡ gate_in portions line → false ≡ are_gates portions count text
       unfolding are_gates gate_in here
-      not_gate e = sym (so_far.tested ∙ rw (next, no_gate (is_gate portions here) (rw part_to_end at e)))
+      not_gate e = sym (so_far.tested ∙ rw (next, no_gate (is_gate portions here) (rw gate_here at e)))
         where
           no_gate : (t : Bool) → None ≡ cond t (Some (gate_on here)) None → t ≡ false
           no_gate true q = cc
           no_gate false q = refl
 
-      pub one_more : (g : Gate) → Some g ≡ gate_in portions (take (length text - 19 * i) (drop (19 * i) text)) → SoFar (i + 1) (gates ++ (g ∷ []))
+      pub one_more : (g : Gate) → Some g ≡ gate_in portions line → SoFar (i + 1) (gates ++ (g ∷ []))
       unfolding are_gates gates_on gate_in here
       one_more g e =
-          let k = a_gate (is_gate portions here) (rw part_to_end at e) in
+          let k = a_gate (is_gate portions here) (rw gate_here at e) in
           let behind : 19 * i + 19 ≡ 19 * (i + 1) = omega arith in
           record {
             long = so_far.long;
-            held = omega (arith, length-append gates (g ∷ []), so_far.held);
             tested = so_far.tested ∙ rw (next, k.0, drop-drop 19 (19 * i) text, behind);
             read =
                 so_far.read ∙ rw (next, drop-drop 19 (19 * i) text, behind, ← k.1)

@@ -68,8 +68,8 @@ fn read_gates(text: &[u8], portions: u16, count: usize) -> Option<ArrayVec<Gate,
     ensures gates { IfSome result (λ gates. gates.items ≡ gates_on count text.now) }
 {
     let mut gates = ArrayVec::new();
-    for line in 0..count {
-        gates.push(read_gate(&text[19 * line..], portions)?);
+    for line in text.chunks_exact(19).take(count) {
+        gates.push(read_gate(line, portions)?);
     }
     Some(gates)
 }

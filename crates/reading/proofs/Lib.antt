@@ -3,4 +3,5 @@ pub mod Scan
 pub mod Texts
 pub mod Reading
 pub mod Rows
+pub mod Lines
 pub mod Examples
