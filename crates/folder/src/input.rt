@@ -61,7 +61,8 @@ pub fn open<R: Files>(rt: &R, name: &[u8]) -> io::Result<R::File> {
     }
 }
 
-// Reads the file of that name to the front of the buffer, as much of it as there is room for. A file that cannot be opened has nothing.
+// Reads the file of that name to the front of the buffer, as much of it as there is room for. A file that cannot be
+// opened has nothing.
 pub fn read_file<R: Files>(rt: &R, name: &[u8], buf: &mut [u8]) -> Filled
     ensures { IsPrefixLen result.bytes buf.new }
 {

@@ -1,4 +1,5 @@
-// The calls of a working folder: the board opened from the file `plan`, and the calls of the file `calls` made on it in pieces of whole lines.
+// The calls of a working folder: the board opened from the file `plan`, and the calls of the file `calls` made on it in
+// pieces of whole lines.
 ghost use Rattle.std.specs.Prelude.{◌≡◌, length, IfOk, IfSome};
 ghost use Rattle.rules.specs.Step.{Kept};
 
@@ -20,7 +21,8 @@ const PIECE_LINES: usize = 8192;
 // The longest plan has 65 lines of 19 bytes; one byte more shows a text that is too long.
 pub const PLAN_SIZE: usize = 65 * 19 + 1;
 
-// A loop has to end, and nothing says that a file does, so the pieces are counted; no file is so long that the count is reached.
+// A loop has to end, and nothing says that a file does, so the pieces are counted; no file is so long that the count is
+// reached.
 const MOST_PIECES: u64 = 1 << 50;
 
 // Runs the calls of the file, piece by piece, and hands the journal lines of each on.
@@ -54,7 +56,9 @@ fn run_pieces<'a, F: Read, L: Fn(&[u8]) -> Result<(), Failure<'a>>>(
     Err(Failure::Endless)
 }
 
-// Room for the calls of a piece, and for their journal. The `ensures` gives only the length, which lending the array as a slice needs.
+// Room for the calls of a piece, and for their journal.
+// Kept: a function for each array, whose `ensures` gives the length; where the caller makes it, the proof of its length
+// as a slice computes so many elements that it breaks off.
 fn room_for_calls() -> [u8; PIECE_LINES * CALL_SIZE]
     ensures { 352256 ≡ length result }
 {
@@ -82,8 +86,8 @@ fn run_calls<'a, F: Read, L: Fn(&[u8]) -> Result<(), Failure<'a>>>(
     run_pieces(opened, file, &mut text, &mut out, on_lines)
 }
 
-// Makes the calls of the file `calls` on the board of the file `plan`, and hands their journal lines on as they come. Where the plan is refused there
-// is no register: its answer is printed.
+// Makes the calls of the file `calls` on the board of the file `plan`, and hands their journal lines on as they come.
+// Where the plan is refused there is no register: its answer is printed.
 pub fn run_folder<'a, R: Files + Print, L: Fn(&[u8]) -> Result<(), Failure<'a>>>(
     rt: &R,
     on_lines: &L,

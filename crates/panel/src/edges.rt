@@ -1,4 +1,5 @@
-// The cases that no file of calls can show: buffers of other lengths, for a line and for a page, and the last number allotted.
+// The cases that no file of calls can show: buffers of other lengths, for a line and for a page, and the last number
+// allotted.
 ghost use Rattle.rules.specs.Step.{Kept};
 
 use crate::output::{print, print_number};
@@ -95,7 +96,8 @@ pub fn last_number<R: Files + Print + Eprint>(rt: &R) {
     }
 }
 
-// Writes the sheet into the buffer given; prints the answer and the number of lines, then the whole buffer as it comes back.
+// Writes the sheet into the buffer given; prints the answer and the number of lines, then the whole buffer as it comes
+// back.
 fn sheet_into<R: Print + Eprint>(rt: &R, register: &Register, buffer: &mut [u8])
     requires { Kept register.now }
 {
@@ -109,7 +111,8 @@ fn sheet_into<R: Print + Eprint>(rt: &R, register: &Register, buffer: &mut [u8])
     print(rt, b"\n");
 }
 
-// 2408 bytes give 23 and stay as they were; 2409 serve, and later bytes stay, also of 2500; with 32 authorities live 2409 are filled.
+// 2408 bytes give 23 and stay as they were; 2409 serve, and later bytes stay, also of 2500; with 32 authorities live
+// 2409 are filled.
 pub fn pages<R: Files + Print + Eprint>(rt: &R) {
     print(rt, b"pages of 2408, 2409 and 2500 bytes\n");
     let silent = |_line: &[u8]| ();

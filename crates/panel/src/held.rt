@@ -1,5 +1,5 @@
-// What a register holds, printed in its order: the numbers of the live authorities, then of each train its number, head, rear and authority, then of
-// each gate that is out its number, its paper and the paper that this one replaced.
+// What a register holds, printed in its order: the numbers of the live authorities, then of each train its number,
+// head, rear and authority, then of each gate that is out its number, its paper and the paper that this one replaced.
 use crate::output::{print, print_number};
 use rules::{Booking, GateNo, Register, Train};
 

@@ -1,4 +1,5 @@
-// The list of scenarios, a file with a line for each: the plan's file name, a blank, the calls' file name, a blank, and the heading.
+// The list of scenarios, a file with a line for each: the plan's file name, a blank, the calls' file name, a blank, and
+// the heading.
 use crate::output::{print, read};
 use std::rt::Files;
 
@@ -16,7 +17,8 @@ fn run_line<R: Print + Eprint, S: Fn(&[u8], &[u8])>(rt: &R, line: &[u8], show: &
     }
 }
 
-// Shows the scenarios of the file, each as `show` does with its plan's and its calls' file. There is room for some 300 lines.
+// Shows the scenarios of the file, each as `show` does with its plan's and its calls' file. There is room for some 300
+// lines.
 pub fn run_list<R: Files + Print + Eprint, S: Fn(&[u8], &[u8])>(rt: &R, file: &[u8], show: &S)
     requires { S.IsAlwaysCallable show.now }
 {

@@ -48,7 +48,8 @@ fn put_lines<R: Print + Eprint, L: Fn(&[u8])>(
     register
 }
 
-// Opens a board from a plan's file, prints the answer if it is refused, and puts at most 100 calls to it, whose journal lines it hands on.
+// Opens a board from a plan's file, prints the answer if it is refused, and puts at most 100 calls to it, whose journal
+// lines it hands on.
 pub fn run_files<R: Files + Print + Eprint, L: Fn(&[u8])>(
     rt: &R,
     plan: &[u8],
