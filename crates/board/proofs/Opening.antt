@@ -1,9 +1,9 @@
 -- What opening leaves: a fresh register stands for the board that the plan opens. Assumes nothing.
-use Rattle.std.proofs.Common.{◌≡◌, refl, sym, ap, subst, ◌∙◌, ℕ, ◌≤◌, lit≤, true, false, List, [], Option, Some, None, Result, Ok, Err}
+use Rattle.std.proofs.Common.{◌≡◌, refl, sym, ap, subst, ◌∙◌, ℕ, ◌≤◌, lit≤, length, true, false, List, [], Option, Some, None, Result, Ok, Err}
 use Rattle.rules.specs.declared.Gate.{Gate}
 use Rattle.rules.specs.declared.Register.{Register}
 use Rattle.rules.specs.declared.refusal.Refusal.TheVariants.{Plan}
-use Rattle.rules.specs.Board.{board_of, opened, closed}
+use Rattle.rules.specs.Board.{Board, board_of, opened, closed}
 use Rattle.rules.specs.Plan.{open_board, open_answer, is_plan}
 use Rattle.rules.specs.Answer.{answer_no}
 use Rattle.rules.specs.Step.{Bounds, Once, Starts, Kept, OpenPost}
@@ -13,10 +13,15 @@ use Rattle.plan.specs.declared.text.Plan as Read
 use Rattle.plan.specs.Lines.{PlanRead}
 
 -- what holds of a register that stands for a freshly opened board
-kept_fresh : (r : Register) (portions : ℕ) (gates : List Gate) → board_of r ≡ opened portions gates → portions ≤ 64 → Kept r
+kept_fresh : (r : Register) (portions : ℕ) (gates : List Gate) → board_of r ≡ opened portions gates → portions ≤ 64 → length gates ≤ 64 → Kept r
 unfolding board_of opened
-kept_fresh r portions gates e h = record {
-  bounds = record { portions = rw (ap (λ (b : _). b.portions) e) h };
+kept_fresh r portions gates e h l = record {
+  bounds = record {
+    portions = rw (ap (λ (b : Board). b.portions) e) h;
+    gates = rw (ap (λ (b : Board). b.gates) e) l;
+    live = (subst Once (sym e) (once_opened portions gates)).live;
+    running = (subst Once (sym e) (once_opened portions gates)).running;
+  };
   once = subst Once (sym e) (once_opened portions gates);
   starts = subst Starts (sym e) (starts_opened portions gates);
 }
@@ -27,7 +32,7 @@ unfolding open_answer
 opened_post text p r h e = record {
   board = e ∙ h.board;
   answered = rw (← h.some);
-  kept = kept_fresh r p.portions p.gates.items e h.portions;
+  kept = kept_fresh r p.portions p.gates.items e h.portions h.gates;
 }
 
 pub refused_post : (text : List ℕ) (r : Register) → PlanRead text None → board_of r ≡ opened 0 []
@@ -36,5 +41,5 @@ unfolding open_answer open_board closed
 refused_post text r h e = record {
   board = rw (← h.some) e;
   answered = rw (← h.some);
-  kept = kept_fresh r 0 [] e (lit≤ tt);
+  kept = kept_fresh r 0 [] e (lit≤ tt) (lit≤ tt);
 }

@@ -82,6 +82,8 @@ fn write_journal(line: &mut [u8], s: Seven, answer: Answer)
     columns::write_line(line, &[6; 9], &numbers);
 }
 
+// Kept: `requires { Kept register }` here and above, and no ghost field of Register: an effect by itself doesn't keep
+// a register so; only the whole of what the answer says of the call does, at the end of `take`.
 // Takes one call: any seven numbers, any buffer for its line. A buffer under 55 bytes gives 1 and stays as it was.
 pub fn call(mut register: Register, seven: Seven, line: &mut [u8]) -> Called
     requires { Kept register }

@@ -2,11 +2,13 @@
 use Prim.Native.Nat.{ℕ, suc, ◌+◌, ◌-◌, ◌*◌, ◌/◌, ◌≤◌, ◌<◌}
 use native.Mathlib.Nat.{sub-zero, zero-add, add-zero, add_assoc}
 use native.Mathlib.Omega.{arith}
-use mathlib.Core.Path.{◌≡◌, refl, sym, ap, subst, ◌∙◌}
+use mathlib.Core.Path.{◌≡◌, refl, sym, ap, ◌∙◌}
 use mathlib.Core.Bool.{Bool, true, false}
 use mathlib.Core.List.{List, [], ◌++◌, append_assoc, append-nil}
 use lib.ListN.{length, take, drop, length-append, length-take, length-drop, take-append-drop}
-use lib.Seq.{length-take-le, take_at, drop-drop}
+use lib.Seq.{length-take-le, take_at, drop_at, drop-drop}
+use mathlib.Core.Logic.{◌⊎◌, inl, inr}
+use Rattle.std.proofs.lemmas.Bool.{cases_lt}
 use borrow.Rule.Slice.PartMut.{mid_of, put_mid, post_of, same_len_mid, mid_len, drop_put}
 use Rattle.rules.specs.declared.Seven.{Seven}
 use Rattle.rules.specs.declared.Register.{Register}
@@ -20,9 +22,15 @@ use Rattle.calls.proofs.Parts.{going, line_on, run_none, run_malformed, run_call
 
 -- ---- the line from a place on
 
--- a text cut to 43 bytes, as the code cuts it
-line_part : (at : ℕ) (text line : List ℕ) → line ≡ mid_of at (at + 43 - at) text → line ≡ take 43 (drop at text)
-line_part at text line e = let w : at + 43 - at ≡ 43 = omega arith in e ∙ rw w
+-- a chunk of 43 bytes off what is left of the text behind k lines is the next line
+pub next_line : (k : ℕ) (text line rest rest' : List ℕ) → rest ≡ drop (43 * k) text → rest ≡ line ++ rest' → length line ≡ 43
+    → (line ≡ take 43 (drop (43 * k) text)) × (rest' ≡ drop (43 * (k + 1)) text) × (43 * k + 43 ≤ length text)
+next_line k text line rest rest' d e l =
+    let next : 43 * (k + 1) ≡ 43 * k + 43 = omega arith in (
+      rw (← d, e) (sym (take_at line rest' 43 l)),
+      rw (next, ← drop-drop 43 (43 * k) text, ← d, e) (sym (drop_at line rest' 43 l)),
+      omega (arith, length-drop (43 * k) text, ap length d, ap length e, length-append line rest'),
+    )
 
 -- fewer bytes than a line has
 short_malformed : (at : ℕ) (text : List ℕ) → length text < at + 43 → line_in (take 43 (drop at text)) ≡ None
@@ -53,7 +61,7 @@ so_far_none n b₀ text out₀ = record {
 module _ (n : ℕ) (b₀ : Board) (text out₀ : List ℕ) (k : ℕ) (b : Board) (out : List ℕ) (so_far : SoFar n b₀ text out₀ k b out) where
   -- a call more, with its line in the buffer
   pub so_far_call : (c : Seven) (b₁ : Board) (line last : List ℕ) → k < n → 43 * k + 43 ≤ length text → 55 * n ≤ length out₀
-      → line ≡ mid_of (43 * k) (43 * k + 43 - 43 * k) text → line_in line ≡ Some c → b₁ ≡ after b c 55
+      → line ≡ take 43 (drop (43 * k) text) → line_in line ≡ Some c → b₁ ≡ after b c 55
       → length last ≡ length (mid_of (55 * k) (55 * k + 55 - 55 * k) out) → last ≡ line_on b c
       → SoFar n b₀ text out₀ (k + 1) b₁ (put_mid (55 * k) (55 * k + 55 - 55 * k) out last)
   so_far_call c b₁ line last more left room cut e eb fills el =
@@ -63,7 +71,7 @@ module _ (n : ℕ) (b₀ : Board) (text out₀ : List ℕ) (k : ℕ) (b : Board)
       let place : 55 * (k + 1) ≡ at + 55 = omega arith in
       let next : 43 * (k + 1) ≡ 43 * k + 43 = omega arith in
       let rest : n - k ≡ suc (n - (k + 1)) = omega arith in
-      let read : line_in (take 43 (drop (43 * k) text)) ≡ Some c = rw (← line_part (43 * k) text line cut) e in
+      let read : line_in (take 43 (drop (43 * k) text)) ≡ Some c = rw (← cut) e in
       let left-run = run_of (n - (k + 1)) (after b c 55) (drop (43 * k + 43) text) in
       let part : length (mid_of at (at + 55 - at) out) ≡ 55 = mid_len at (at + 55) out (omega arith) ∙ omega arith in
       let l = fills ∙ part in
@@ -116,19 +124,15 @@ module _ (before register : Register) (text out₀ : List ℕ) (k : ℕ) (out : 
       let s : length out₀ / 55 - k ≡ suc (length out₀ / 55 - (k + 1)) = omega arith in
       done true (rw s (run_malformed (board_of register) (drop (43 * k) text) (length out₀ / 55 - (k + 1)) e))
 
-  -- no call more was to be made
-  pub done_full : length out₀ / 55 ≤ k → RunPost before text out₀ register (length out₀ / 55) out
-  done_full h =
-      let few = so_far.few in
-      let all : length out₀ / 55 ≡ k = omega arith in
-      let e : length out₀ / 55 - k ≡ 0 = omega arith in
-      subst (λ (n : ℕ). RunPost before text out₀ register n out) (sym all) (done false (rw e (run_none (board_of register) (drop (43 * k) text))))
-
-  -- less than a line is left
-  pub done_short : k < length out₀ / 55 → length text < 43 * k + 43 → RunPost before text out₀ register k out
-  done_short h short = malformed h (short_malformed (43 * k) text short)
+  -- no call more was to be made, or less than a line is left
+  pub done_over : (0 < length out₀ / 55 - k → length text < 43 * k + 43) → RunPost before text out₀ register k out
+  done_over short = go (cases_lt k (length out₀ / 55))
+    where
+      go : (k < length out₀ / 55) ⊎ (length out₀ / 55 ≤ k) → RunPost before text out₀ register k out
+      go (inl h) = malformed h (short_malformed (43 * k) text (short (omega arith)))
+      go (inr h) = let e : length out₀ / 55 - k ≡ 0 = omega arith in done false (rw e (run_none (board_of register) (drop (43 * k) text)))
 
   -- the next line is malformed
-  pub done_malformed : (line : List ℕ) → k < length out₀ / 55 → line ≡ mid_of (43 * k) (43 * k + 43 - 43 * k) text → line_in line ≡ None
+  pub done_malformed : (line : List ℕ) → k < length out₀ / 55 → line ≡ take 43 (drop (43 * k) text) → line_in line ≡ None
       → RunPost before text out₀ register k out
-  done_malformed line h cut e = malformed h (rw (← line_part (43 * k) text line cut) e)
+  done_malformed line h cut e = malformed h (rw (← cut) e)

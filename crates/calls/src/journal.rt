@@ -7,8 +7,8 @@ ghost use Rattle.lines.specs.Line.{line_in};
 use columns::write_line;
 use rules::{Answer, Seven, allotted_number, answer_number};
 
-// Fills the buffer with the journal line of the call on a line: the call's seven numbers as they stand there, and what was
-// answered.
+// Fills the buffer with the journal line of the call on a line: the call's seven numbers as they stand there, and what
+// was answered.
 pub fn write_journal(text: &[u8], s: Seven, answer: Answer, out: &mut [u8])
     requires { (line_in text.now ≡ Some s) × (length out.old ≡ 55) }
     ensures { out.new ≡ journal_line s (answer_no answer) (number_no answer) }

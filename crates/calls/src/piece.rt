@@ -15,24 +15,22 @@ pub struct Ran {
 }
 
 // The run on a register that is lent: how many calls it made.
-// Kept: an index, and no zip of the text's lines with chunks_exact_mut of out: once such a loop is over, a proof knows how
+// Kept: out is cut by an index, and not by a zip with its chunks_exact_mut: once such a loop is over, a proof knows how
 // long out is, and not what its chunks hold.
 fn run_lines(register: &mut Register, text: &[u8], out: &mut [u8]) -> usize
     requires { Kept register.old }
     ensures { RunPost register.old text.now out.old register.new result out.new }
 {
-    let most = out.len() / 55;
-    for k in 0..most {
-        let Some(line) = text.get(43 * k..43 * k + 43) else {
-            return k;
-        };
+    let mut lines = 0;
+    for line in text.chunks_exact(43).take(out.len() / 55) {
         let Some(seven) = read_line(line) else {
-            return k;
+            return lines;
         };
         let answer = take(register, seven);
-        write_journal(line, seven, answer, &mut out[55 * k..55 * k + 55]);
+        write_journal(line, seven, answer, &mut out[55 * lines..55 * lines + 55]);
+        lines += 1;
     }
-    most
+    lines
 }
 
 // Makes the calls of a text in order, up to a malformed line, and puts their journal lines to the front of out: as many

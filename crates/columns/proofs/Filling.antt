@@ -1,5 +1,6 @@
 -- The steps of the code that writes: its table, a column filled from its last byte on, a line counted and then filled number by number.
 -- Only the proofs of `src/write.rt` cite these. Assumes nothing.
+use Rattle.std.specs.Prelude.{Option, Some, None}
 use mathlib.Core.Path.{◌≡◌, refl, sym, ap, ◌∙◌}
 use mathlib.Core.Logic.{inl, inr}
 use mathlib.Core.Bool.{true, false, cond, ◌&&◌}
@@ -75,16 +76,16 @@ all_filled w n before e f b =
 pub ruleset filling = (none_filled, front_start, front_step, front_done, all_filled)
 
 -- ---- a line
--- the length of a line and of s bytes before it, 0 where they cannot be written
-unfoldable pub size_from : ℕ → ℕ → List ℕ → List ℕ → ℕ
-size_from room s ws ns = cond (all_fit ws ns && leb (total ws + s) room) (total ws + s) 0
+-- the length of a line and of s bytes before it, none where they cannot be written
+unfoldable pub size_from : ℕ → ℕ → List ℕ → List ℕ → Option ℕ
+size_from room s ws ns = cond (all_fit ws ns && leb (total ws + s) room) (Some (total ws + s)) None
 
-pub size_start : (room : ℕ) (ws ns : List ℕ) → cond (writable room ws ns) (length (line ws ns)) 0 ≡ size_from room 1 ws ns
+pub size_start : (room : ℕ) (ws ns : List ℕ) → cond (writable room ws ns) (Some (length (line ws ns))) None ≡ size_from room 1 ws ns
 unfolding writable size_from
 size_start room ws ns = elim (truth (all_fit ws ns)) [ inl e ↦ rw (line-length ws ns e) | inr e ↦ rw e ]
 
 -- there is no room for the numbers, if they fit at all
-pub size_none : (room s : ℕ) (ws ns : List ℕ) → (all_fit ws ns ≡ true → room < total ws + s) → size_from room s ws ns ≡ 0
+pub size_none : (room s : ℕ) (ws ns : List ℕ) → (all_fit ws ns ≡ true → room < total ws + s) → size_from room s ws ns ≡ None
 unfolding size_from
 size_none room s ws ns h = elim (truth (all_fit ws ns)) [ inl e ↦ rw (e, lt-leb (total ws + s) room (h e)) | inr e ↦ rw e ]
 
@@ -93,16 +94,16 @@ pub size_step : (room s w n : ℕ) (ws ns : List ℕ) → fits w n ≡ true → 
 unfolding size_from all_fit total
 size_step room s w n ws ns f = let e : w + total ws + s ≡ total ws + (s + w) = omega arith in rw (f, e)
 
-pub size_unfit : (room s w n : ℕ) (ws ns : List ℕ) → fits w n ≡ false → size_from room s (w ∷ ws) (n ∷ ns) ≡ 0
+pub size_unfit : (room s w n : ℕ) (ws ns : List ℕ) → fits w n ≡ false → size_from room s (w ∷ ws) (n ∷ ns) ≡ None
 unfolding size_from all_fit
 size_unfit room s w n ws ns f = rw f
 
-pub size_full : (room s w n : ℕ) (ws ns : List ℕ) → room < s + w → size_from room s (w ∷ ws) (n ∷ ns) ≡ 0
+pub size_full : (room s w n : ℕ) (ws ns : List ℕ) → room < s + w → size_from room s (w ∷ ws) (n ∷ ns) ≡ None
 unfolding total
 size_full room s w n ws ns h = size_none room s (w ∷ ws) (n ∷ ns) (λ e. omega arith)
 
 -- every number counted
-pub size_end : (room s : ℕ) (ws ns : List ℕ) → ws ≡ [] → ns ≡ [] → s ≤ room → size_from room s ws ns ≡ s
+pub size_end : (room s : ℕ) (ws ns : List ℕ) → ws ≡ [] → ns ≡ [] → s ≤ room → size_from room s ws ns ≡ Some s
 unfolding size_from all_fit total
 size_end room s ws ns e f r = rw (e, f, zero-add s, le-leb s room r)
 
@@ -131,13 +132,13 @@ line_end at t ws ns w e =
     let l : length t ≤ suc at = omega arith in
     set_split t at 10 (omega arith) ∙ rw (w, drop_of_length-le t l)
 
--- ---- what the length that was counted tells: 0 that the line cannot be written, any other that it can
-pub size_zero : (size : ℕ) (ws ns buffer : List ℕ) → size ≡ cond (writable (length buffer) ws ns) (length (line ws ns)) 0 → size ≡ 0
+-- ---- what the length that was counted tells: none that the line cannot be written, any that it can
+pub size_zero : (ws ns buffer : List ℕ) → None ≡ cond (writable (length buffer) ws ns) (Some (length (line ws ns))) None
     → Written ws ns buffer buffer false
-size_zero size ws ns buffer e z = record { answered = sym never; bytes = rw never }
+size_zero ws ns buffer e = record { answered = sym never; bytes = rw never }
   where
     some : writable (length buffer) ws ns ≡ true → ⊥
-    some t = omega (arith, rw t at e, line-length ws ns (writable_known (length buffer) ws ns t).0)
+    some t = let h = rw t at e in cc
 
     never : writable (length buffer) ws ns ≡ false
     never = elim (truth (writable (length buffer) ws ns)) [ inl t ↦ absurd (some t) | inr f ↦ f ]
@@ -148,14 +149,15 @@ pub record Sized (size room : ℕ) (ws ns : List ℕ) : Type 0 where
   pub long : size ≡ length (line ws ns)
   pub within : size ≤ room
 
-pub size_some : (size room : ℕ) (ws ns : List ℕ) → size ≡ cond (writable room ws ns) (length (line ws ns)) 0 → (size ≡ 0 → ⊥)
+pub size_some : (size room : ℕ) (ws ns : List ℕ) → Some size ≡ cond (writable room ws ns) (Some (length (line ws ns))) None
     → Sized size room ws ns
-size_some size room ws ns e h = elim (truth (writable room ws ns)) [ inl t ↦ sized t | inr f ↦ absurd (h (rw f at e)) ]
+size_some size room ws ns e = elim (truth (writable room ws ns)) [ inl t ↦ sized t | inr f ↦ (let h = rw f at e in cc) ]
   where
     sized : writable room ws ns ≡ true → Sized size room ws ns
     sized t =
         let k = writable_known room ws ns t in
-        let l : size ≡ length (line ws ns) = rw t at e in
+        let h = rw t at e in
+        let l : size ≡ length (line ws ns) = cc in
         record { can = t; fit = k.0; long = l; within = rw l k.1 }
 
 -- the line in the buffer

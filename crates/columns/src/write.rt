@@ -1,5 +1,5 @@
 // Writing a number into a lent text, and a line of numbers into a lent buffer.
-ghost use Rattle.std.specs.Prelude.{◌≡◌, true, cond, ◌++◌, ◌+◌, ◌≤◌, length, take, drop};
+ghost use Rattle.std.specs.Prelude.{◌≡◌, true, cond, ◌++◌, ◌+◌, ◌≤◌, length, take, drop, Some, None};
 ghost use Rattle.columns.specs.Column.{column, fits, ColumnFilled};
 ghost use Rattle.columns.specs.Line.{line, all_fit, writable, Written};
 ghost use Rattle.columns.specs.Steps.{mark};
@@ -76,28 +76,28 @@ fn put(t: &mut [u8], at: usize, width: usize, n: u32)
     fill(&mut t[at..at + width], n);
 }
 
-// The length of the line, or 0 where it cannot be written into room bytes. (A line has one byte at least.)
-fn line_size(widths: &[u8], numbers: &[u32], room: usize) -> usize
-    ensures { result ≡ cond (writable room widths.now numbers.now) (length (line widths.now numbers.now)) 0 }
+// The length of the line, where it can be written into room bytes.
+fn line_size(widths: &[u8], numbers: &[u32], room: usize) -> Option<usize>
+    ensures { result ≡ cond (writable room widths.now numbers.now) (Some (length (line widths.now numbers.now))) None }
 {
     if widths.len() != numbers.len() {
-        return 0;
+        return None;
     }
     if room == 0 {
-        return 0;
+        return None;
     }
     let mut size = 1;
     for (width, number) in widths.iter().zip(numbers) {
         let width = *width as usize;
         if !is_fitting(width, *number) {
-            return 0;
+            return None;
         }
         if room - size < width {
-            return 0;
+            return None;
         }
         size += width;
     }
-    size
+    Some(size)
 }
 
 // Fills the whole slice with the line.
@@ -117,13 +117,13 @@ fn fill_line(t: &mut [u8], widths: &[u8], numbers: &[u32])
 // Writes the numbers, each in columns of its width, and a line feed to the front of the buffer; later bytes stay.
 // False, and no byte changed, where there are not as many numbers as widths, one does not fit its width, or the
 // buffer is too short.
+// Kept: a bool, and no Option or Result: there is no value and no reason beside it.
 pub fn write_line(buf: &mut [u8], widths: &[u8], numbers: &[u32]) -> bool
     ensures { Written widths.now numbers.now buf.old buf.new result }
 {
-    let size = line_size(widths, numbers, buf.len());
-    if size == 0 {
+    let Some(size) = line_size(widths, numbers, buf.len()) else {
         return false;
-    }
+    };
     fill_line(&mut buf[..size], widths, numbers);
     true
 }

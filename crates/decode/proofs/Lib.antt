@@ -1,2 +1,2 @@
 -- The laws of this crate.
-pub mod Table
+pub mod KindLaws

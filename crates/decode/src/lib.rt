@@ -1,4 +1,5 @@
-// Reading a call off its seven numbers: its number is matched over 1 to 17 and the range beyond; its fields are then matched by kind (crate fields).
+// Reading a call off its seven numbers: its number is matched over 1 to 17 and the range beyond; its fields are then
+// matched by kind (crate fields).
 #![tactic(auto)]
 
 ghost use Rattle.std.specs.Prelude.{◌≡◌};
@@ -20,7 +21,7 @@ fn form_of(call: u16) -> Form
             c: Field::Last,
             d: Field::Officer,
         },
-        2 => Form {
+        2 | 6 | 7 | 8 => Form {
             a: Field::Authority,
             b: Field::Officer,
             c: Field::Unused,
@@ -32,33 +33,9 @@ fn form_of(call: u16) -> Form
             c: Field::Officer,
             d: Field::Unused,
         },
-        4 => Form {
+        4 | 5 => Form {
             a: Field::Gate,
             b: Field::Unused,
-            c: Field::Unused,
-            d: Field::Unused,
-        },
-        5 => Form {
-            a: Field::Gate,
-            b: Field::Unused,
-            c: Field::Unused,
-            d: Field::Unused,
-        },
-        6 => Form {
-            a: Field::Authority,
-            b: Field::Officer,
-            c: Field::Unused,
-            d: Field::Unused,
-        },
-        7 => Form {
-            a: Field::Authority,
-            b: Field::Officer,
-            c: Field::Unused,
-            d: Field::Unused,
-        },
-        8 => Form {
-            a: Field::Authority,
-            b: Field::Officer,
             c: Field::Unused,
             d: Field::Unused,
         },
@@ -126,7 +103,7 @@ fn form_of(call: u16) -> Form
 }
 
 // The kind with that number; one that no authority has, which no REQUEST in its ranges names, stands for a TWA.
-#[tactic(auto, using(crate::proofs::Table::kind_or_twa))]
+#[tactic(auto, using(crate::proofs::KindLaws::kind_or_twa))]
 fn kind_of(n: u16) -> Kind
     ensures { result ≡ kind_of n }
 {
@@ -219,19 +196,19 @@ fn name(s: Seven) -> Option<Call>
     }
 }
 
-// The call that the seven numbers are, on a board of that many portions and gates: refused with 2 where no call has the number, with 3 where the
-// stamp or a field is out of its range.
+// The call that the seven numbers are, on a board of that many portions and gates: refused with 2 where no call has the
+// number, with 3 where the stamp or a field is out of its range.
+#[tactic(auto, unfolding(rules::specs::Call::decoded, rules::specs::Call::in_ranges, rules::specs::Call::is_call, rules::specs::Call::calls))]
 pub fn decode(portions: u16, gates: usize, s: Seven) -> Result<Call, Refusal>
     ensures { result ≡ decoded portions gates s }
 {
-    let call = s.call;
-    if (call < 1) | (17 < call) {
+    if !(1..=17).contains(&s.call) {
         return Err(Refusal::NoSuchCall);
     }
     if !is_stamp(s.day, s.time) {
         return Err(Refusal::Field);
     }
-    if !is_in_form(portions, gates, form_of(call), s) {
+    if !is_in_form(portions, gates, form_of(s.call), s) {
         return Err(Refusal::Field);
     }
     name(s).ok_or(Refusal::NoSuchCall)

@@ -1,5 +1,5 @@
 -- The room that an accepted REQUEST or MOVE has. Assumes nothing.
-use Rattle.std.proofs.Common.{◌≡◌, refl, ℕ, ◌<◌, Bool, true, false, ◌||◌, List, ◌∷◌, length, leb, leb-false, arith, Some}
+use Rattle.std.proofs.Common.{◌≡◌, refl, ℕ, ◌<◌, Bool, true, false, List, ◌∷◌, length, leb, leb-false, arith, Some}
 use Rattle.lists.proofs.Tests.{told, and_no_r}
 use Rattle.rules.specs.declared.Seven.{Seven}
 use Rattle.rules.specs.declared.Call.{Call}
@@ -7,7 +7,7 @@ use Rattle.rules.specs.declared.Call.TheVariants.{Request, Withdraw, Agree, Bloc
 use Rattle.rules.specs.Board.{Board}
 use Rattle.rules.specs.Refusals.{Refusal, ◌when◌, lowest, full, no_room, own}
 use Rattle.changes.specs.Room.{HasPlace}
-use Rattle.effects.specs.Room.{HasRoom, RoomFor}
+use Rattle.effects.specs.Room.{RoomFor}
 
 -- the first condition of a call that is not refused does not hold
 off : (n : ℕ) (t : Bool) (rs : List Refusal) → 0 < n → lowest (n when t ∷ rs) ≡ 0 → t ≡ false

@@ -18,6 +18,7 @@ fn is_new_paper(paper: u16, certified: u16, new: u16) -> bool
 }
 
 // The value of a field of the call is in the range of its kind.
+#[tactic(auto, unfolding(rules::specs::Call::in_range))]
 fn is_in_range(portions: u16, gates: usize, field: Field, s: Seven, value: u16) -> bool
     ensures { result ≡ in_range portions gates field s value }
 {
@@ -29,7 +30,7 @@ fn is_in_range(portions: u16, gates: usize, field: Field, s: Seven, value: u16) 
         Field::Officer => (1 <= value) & (value <= 999),
         Field::Authority => (1 <= value) & (value <= 9999),
         Field::Train => (1 <= value) & (value <= 9999),
-        Field::Gate => (value as usize) < gates,
+        Field::Gate => usize::from(value) < gates,
         Field::Assurances => value <= 7,
         Field::AuthorityOrNone => value <= 9999,
         Field::OfficerOrNone => value <= 999,
@@ -44,6 +45,7 @@ fn is_in_range(portions: u16, gates: usize, field: Field, s: Seven, value: u16) 
 }
 
 // Each of the four fields is in its range.
+#[tactic(auto, unfolding(rules::specs::Call::in_form))]
 pub fn is_in_form(portions: u16, gates: usize, f: Form, s: Seven) -> bool
     ensures { result ≡ in_form portions gates f s }
 {

@@ -7,7 +7,6 @@ use mathlib.Core.Bool.{Bool, true, false, ◌&&◌, and-false}
 use mathlib.Core.List.{List, [], ◌∷◌}
 use lib.Dec.{eqb}
 use borrow.Author.Tests.{eq-eqb, ne_eqb}
-use Rattle.lists.specs.Search.{any}
 use Rattle.lists.proofs.Tests.{or_no}
 use Rattle.lists.proofs.Search.{Member, any_yes}
 use Rattle.rules.specs.declared.AuthorityNo.{AuthorityNo}

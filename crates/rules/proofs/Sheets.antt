@@ -7,7 +7,7 @@ use mathlib.Core.Logic.{⊎_elim}
 use mathlib.Core.Bool.{true, false}
 use mathlib.Core.List.{List, [], ◌∷◌, ◌++◌, map}
 use lib.ListN.{length, get_or}
-use Rattle.lists.specs.Search.{any, first, last, keep, below}
+use Rattle.lists.specs.Search.{first, last, below}
 use Rattle.lists.proofs.Tests.{truth}
 use Rattle.lists.specs.Order.{Ascending}
 use Rattle.lists.proofs.Search.{Member}

@@ -59,15 +59,18 @@ pub record Once (b : Board) : Type 0 where
   pub last : b.last ≤ 9999
   pub allotted : (a : Authority) → Memᴰ a b.authorities → (1 ≤ authority_no a) × (authority_no a ≤ b.last)
 
--- the portions of a register fit a set
+-- a register's portions and gates fit a set, and its lists are within what they can hold
 pub record Bounds (r : Register) : Type 0 where
   pub portions : r.portions ≤ 64
+  pub gates : length r.gates.items ≤ 64
+  pub live : length r.authorities.items ≤ 32
+  pub running : length r.trains.items ≤ 32
 
 -- "Day is 0 to 9999": a term starts in a minute of those 10,000 days of 1440 minutes
 abbrev pub Starts : Board → Type 0
 Starts b = (a : Authority) → Memᴰ a b.authorities → a.start < 10000 * 1440
 
--- what holds of every register that opening or a call returned: its counts are within its arrays, what they hold is held once, by ascending
+-- what holds of every register that opening or a call returned: its lists are within what they can hold, what they hold is held once, by ascending
 -- number, and terms start within the days
 pub record Kept (r : Register) : Type 0 where
   pub bounds : Bounds r

@@ -155,6 +155,8 @@ pub enum Call {
 }
 
 // A gate: traffic goes from one portion to another; 99 is outside the board.
+// Kept: the kind, and below 99 for outside and 0 for none, are numbers: `call` takes a register that holds any, and
+// an enum or an Option would ask more of it.
 #[derive(Clone, Copy, Debug, Default, PartialEq, Eq)]
 pub struct Gate {
     pub from: u16,
@@ -195,6 +197,8 @@ pub struct Train {
 
 // The board's whole state: the gates of the plan by number, and the booking of each; the live authorities and the trains on the board, by ascending
 // number. blocks is a set of gates; last is the last number allotted; day and time are the stamp of the last accepted call.
+// Kept: gates and bookings are two lists: the plan's gates never change, and the reckoning reads them alone; in one
+// list each clause on gates would be of a list that is mapped.
 #[derive(Drop)]
 pub struct Register {
     pub portions: u16,

@@ -1,5 +1,5 @@
 // The stamp of a call: its day and time, whether they are in their ranges, and the minute that they are.
-#![tactic(auto)]
+#![tactic(auto, unfolding(rules::specs::Call::is_day, rules::specs::Call::is_time, rules::specs::Call::minute_of))]
 
 ghost use Rattle.std.specs.Prelude.{◌≡◌, ◌&&◌};
 ghost use Rattle.rules.specs.Call.{is_day, is_time, minute_of};
@@ -28,5 +28,5 @@ pub fn is_stamp(day: u16, time: u16) -> bool
 pub fn minute_of(day: u16, time: u16) -> u32
     ensures { result ≡ minute_of day time }
 {
-    day as u32 * 1440 + time as u32 / 100 * 60 + time as u32 % 100
+    u32::from(day) * 1440 + u32::from(time / 100) * 60 + u32::from(time % 100)
 }

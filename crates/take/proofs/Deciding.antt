@@ -20,6 +20,7 @@ use Rattle.rules.specs.Step.{Kept, Bounds, Once, Starts, after, allotted}
 use Rattle.rules.proofs.Accepted.{Ranges, in_ranges_lem}
 use Rattle.rules.proofs.Answers.{refused_same, refused_none}
 use Rattle.rules.proofs.Once.{once_after}
+use Rattle.rules.proofs.Safety.{gates_stay}
 use Rattle.rules.proofs.Terms.{starts_after}
 use Rattle.take.specs.Taking.{with_room, Allowed, TakePost}
 
@@ -163,9 +164,15 @@ portions_stay b (Join twa toa officer distance) = refl
 portions_stay b (BookOut g paper) = refl
 portions_stay b (BookIn g paper certified new) = refl
 
-bounds_stay : (r out : Register) (c : Call) → Bounds r → board_of out ≡ effect (board_of r) (Some c) → out.portions ≤ 64
+bounds_stay : (r out : Register) (c : Call) (day time : ℕ) → Bounds r → board_of out ≡ effect (board_of r) (Some c)
+    → Once (board_of (stamped day time out)) → Bounds (stamped day time out)
 unfolding board_of
-bounds_stay r out c k e = rw (ap (λ (b : Board). b.portions) e ∙ portions_stay (board_of r) c) k.portions
+bounds_stay r out c day time k e o = record {
+  portions = rw (ap (λ (b : Board). b.portions) e ∙ portions_stay (board_of r) c) k.portions;
+  gates = rw (ap (λ (b : Board). b.gates) e ∙ gates_stay (board_of r) (Some c)) k.gates;
+  live = o.live;
+  running = o.running;
+}
 
 pub taken_accepted : (r : Register) (s : Seven) (c : Call) (out : Register) (given : Result (Option AuthorityNo) Refused.Refusal) → Kept r
     → named s ≡ Some c → with_room (board_of r) s ≡ 0 → board_of out ≡ effect (board_of r) (Some c) → answer_no given ≡ 0
@@ -181,7 +188,7 @@ taken_accepted r s c out given k is z e accepted number numbered =
       number = number_is b s z number;
       numbered = rw (eq-eqb (answer b s 55) 0 z) numbered;
       kept = record {
-        bounds = record { portions = bounds_stay r out c k.bounds e };
+        bounds = bounds_stay r out c s.day s.time k.bounds e (subst Once (sym after_is) (once_after b s 55 k.once));
         once = subst Once (sym after_is) (once_after b s 55 k.once);
         starts = subst Starts (sym after_is) (starts_after b s 55 k.starts);
       };

@@ -10,6 +10,7 @@ ghost use Rattle.trains.specs.Trains.{SearchesEnds};
 use rules::{Authority, AuthorityNo, Kind, Train, TrainNo};
 
 // The train with that number.
+// Kept: loops with a label, as document 01 names the form of these searches.
 pub fn find_train(trains: &[Train], n: TrainNo) -> Option<Train>
     ensures { result ≡ find (is_train n.0) trains.now }
 {

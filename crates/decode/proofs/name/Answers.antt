@@ -2,10 +2,6 @@
 use Rattle.rules.specs.Call.{calls, entry_of, named}
 use Rattle.decode.proofs.name.Goals as goal
 
-pub returns-in-1 : goal.returns-in-1
-unfolding named entry_of calls
-returns-in-1 c = rw (c.in-1.is, c.kind_of.ensures)
-
 pub returns-in-2 : goal.returns-in-2
 unfolding named entry_of calls
 returns-in-2 c = rw c.in-2.is
