@@ -15,8 +15,8 @@ pub struct Ran {
 }
 
 // The run on a register that is lent: how many calls it made.
-// Kept: out is cut by an index, and not by a zip with its chunks_exact_mut: in such a loop an invariant can't name out,
-// and once it is over a proof knows how long out is, and not what it holds.
+// Kept: out is cut by an index, and not by a zip with its chunks_exact_mut: a proof knows nothing of what is written
+// through them.
 fn run_lines(register: &mut Register, text: &[u8], out: &mut [u8]) -> usize
     requires { Kept register.old }
     ensures { RunPost register.old text.now out.old register.new result out.new }

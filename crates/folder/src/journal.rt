@@ -56,8 +56,14 @@ fn run_pieces<'a, F: Read, L: Fn(&[u8]) -> Result<(), Failure<'a>>>(
     Err(Failure::Endless)
 }
 
+<<<<<<< HEAD
 // Room for the calls of a piece, and for their journal. The `ensures` gives only the length, which lending the array as
 // a slice needs.
+=======
+// Room for the calls of a piece, and for their journal.
+// Kept: a function for each array, whose `ensures` gives the length; where the caller makes it, the proof of its length
+// as a slice computes so many elements that it breaks off.
+>>>>>>> 3a36c4404c41ed3641eb23a8b0182e22b5c7bd19
 fn room_for_calls() -> [u8; PIECE_LINES * CALL_SIZE]
     ensures { 352256 ≡ length result }
 {

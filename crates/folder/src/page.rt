@@ -14,6 +14,7 @@ pub fn print_page<R: Print>(rt: &R, register: &Register) -> Result<(), Failure<'
     let mut page = [0; 33 * 73];
     match sheet::write_sheet(register, &mut page) {
         Ok(lines) => print(rt, &page[..73 * lines]),
+        // So it is never refused.
         Err(_) => Ok(()),
     }
 }
