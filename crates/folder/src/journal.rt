@@ -18,6 +18,11 @@ const LINE_SIZE: usize = 55;
 // How many calls are read at a time.
 const PIECE_LINES: usize = 8192;
 
+// The bytes of so many calls, and of their journal lines.
+const CALLS_SIZE: usize = PIECE_LINES * CALL_SIZE;
+
+const LINES_SIZE: usize = PIECE_LINES * LINE_SIZE;
+
 // The longest plan has 65 lines of 19 bytes; one byte more shows a text that is too long.
 pub const PLAN_SIZE: usize = 65 * 19 + 1;
 
@@ -56,24 +61,13 @@ fn run_pieces<'a, F: Read, L: Fn(&[u8]) -> Result<(), Failure<'a>>>(
     Err(Failure::Endless)
 }
 
-<<<<<<< HEAD
-// Room for the calls of a piece, and for their journal. The `ensures` gives only the length, which lending the array as
-// a slice needs.
-=======
-// Room for the calls of a piece, and for their journal.
-// Kept: a function for each array, whose `ensures` gives the length; where the caller makes it, the proof of its length
-// as a slice computes so many elements that it breaks off.
->>>>>>> 3a36c4404c41ed3641eb23a8b0182e22b5c7bd19
-fn room_for_calls() -> [u8; PIECE_LINES * CALL_SIZE]
-    ensures { 352256 ≡ length result }
+// Room for so many bytes of a piece.
+// Kept: a function, whose `ensures` gives the length: where the caller makes the array, the proof of its length as a
+// slice computes so many elements that it breaks off.
+fn room<const N: usize>() -> [u8; N]
+    ensures { N ≡ length result }
 {
-    [0; PIECE_LINES * CALL_SIZE]
-}
-
-fn room_for_journal() -> [u8; PIECE_LINES * LINE_SIZE]
-    ensures { 450560 ≡ length result }
-{
-    [0; PIECE_LINES * LINE_SIZE]
+    [0; N]
 }
 
 // Runs the calls of the file.
@@ -86,8 +80,8 @@ fn run_calls<'a, F: Read, L: Fn(&[u8]) -> Result<(), Failure<'a>>>(
     requires on_lines { L.IsAlwaysCallable on_lines.now }
     ensures { IfOk result (λ register. Kept register) }
 {
-    let mut text = room_for_calls();
-    let mut out = room_for_journal();
+    let mut text = room::<CALLS_SIZE>();
+    let mut out = room::<LINES_SIZE>();
     run_pieces(opened, file, &mut text, &mut out, on_lines)
 }
 

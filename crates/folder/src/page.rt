@@ -14,7 +14,7 @@ pub fn print_page<R: Print>(rt: &R, register: &Register) -> Result<(), Failure<'
     let mut page = [0; 33 * 73];
     match sheet::write_sheet(register, &mut page) {
         Ok(lines) => print(rt, &page[..73 * lines]),
-        // So it is never refused.
+        // Every register that a call returns has a sheet with no more lines, so this isn't reached.
         Err(_) => Ok(()),
     }
 }
