@@ -41,7 +41,8 @@ fn mark_of(rest: u32) -> u8
 
 // Fills the whole slice with a number that fits.
 // Kept: std's `write!(part, "{n:>6}")` takes three times as long (10 million numbers: 0.07 s by hand, 0.21 s by std).
-// Kept: an index, and not `iter_mut().rev()`: a proof knows nothing of what is written through an adapter of `iter_mut`.
+// Kept: an index, and not `iter_mut().rev()`: a proof knows nothing of what is written through an adapter of
+// `iter_mut`.
 #[tactic(auto, using(crate::proofs::Filling::filling))]
 fn fill(t: &mut [u8], n: u32)
     requires { fits (length t.old) n ≡ true }
