@@ -63,6 +63,7 @@ pub record Once (b : Board) : Type 0 where
 pub record Bounds (r : Register) : Type 0 where
   pub portions : r.portions ≤ 64
   pub gates : length r.gates.items ≤ 64
+  pub booked : length r.bookings.items ≤ 64
   pub live : length r.authorities.items ≤ 32
   pub running : length r.trains.items ≤ 32
 

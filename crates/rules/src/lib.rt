@@ -14,16 +14,16 @@ pub use refusal::Refusal;
 
 // The four kinds of number that are never taken for one another: those of authorities, of trains, of gates, and of the
 // papers that book a gate out of use.
-#[derive(Clone, Copy, Debug, Default, PartialEq, Eq)]
+#[derive(Clone, Copy, Debug, Default, PartialEq, Eq, PartialOrd, Ord)]
 pub struct AuthorityNo(pub u16);
 
-#[derive(Clone, Copy, Debug, Default, PartialEq, Eq)]
+#[derive(Clone, Copy, Debug, Default, PartialEq, Eq, PartialOrd, Ord)]
 pub struct TrainNo(pub u16);
 
-#[derive(Clone, Copy, Debug, Default, PartialEq, Eq)]
+#[derive(Clone, Copy, Debug, Default, PartialEq, Eq, PartialOrd, Ord)]
 pub struct GateNo(pub u16);
 
-#[derive(Clone, Copy, Debug, Default, PartialEq, Eq)]
+#[derive(Clone, Copy, Debug, Default, PartialEq, Eq, PartialOrd, Ord)]
 pub struct PaperNo(pub u16);
 
 // A call as it is handed in: seven numbers of 16 bits.
@@ -203,7 +203,7 @@ pub struct Train {
 // are the stamp of the last accepted call.
 // Kept: gates and bookings are two lists: the plan's gates never change, and the reckoning reads them alone; in one
 // list each clause on gates would be of a list that is mapped.
-#[derive(Drop)]
+#[derive(Clone, Drop)]
 pub struct Register {
     pub portions: u16,
     pub gates: ArrayVec<Gate, 64>,
@@ -220,14 +220,14 @@ pub struct Register {
 pub type Answer = Result<Option<AuthorityNo>, Refusal>;
 
 // What opening returns: the register, the closed board's where the plan is refused.
-#[derive(Drop)]
+#[derive(Clone, Drop)]
 pub struct Opened {
     pub register: Register,
     pub answer: Result<(), Refusal>,
 }
 
 // What a call returns: the register, as it was where the call is refused.
-#[derive(Drop)]
+#[derive(Clone, Drop)]
 pub struct Called {
     pub register: Register,
     pub answer: Answer,
