@@ -91,7 +91,7 @@ fn line_size(widths: &[u8], numbers: &[u32], room: usize) -> Option<usize>
     }
     let mut size = 1;
     for (width, number) in widths.iter().zip(numbers) {
-        let width = *width as usize;
+        let width = usize::from(*width);
         if !is_fitting(width, *number) {
             return None;
         }
@@ -110,7 +110,7 @@ fn fill_line(t: &mut [u8], widths: &[u8], numbers: &[u32])
 {
     let mut at = 0;
     for (width, number) in widths.iter().zip(numbers) {
-        let width = *width as usize;
+        let width = usize::from(*width);
         put(t, at, width, *number);
         at += width;
     }

@@ -74,9 +74,5 @@ const UP_TO: [u64; 64] = [
 pub fn up_to(n: u16) -> u64
     ensures { result ≡ Sets.up_to n }
 {
-    let mut place = n as usize;
-    if 63 < place {
-        place = 63;
-    }
-    UP_TO[place]
+    UP_TO[usize::from(n).min(63)]
 }

@@ -35,7 +35,7 @@ put-requires c =
     let z = turn (goal.at.put-requires c).In-Some in
     let n = next (goal.at.put-requires c).In-Some in
     let l = rw z.0 at c.loop-width.invariant.0 in
-    (omega arith, n.fit)
+    (omega arith, rw c.from-width.ensures n.fit)
 
 pub overflow_add-at : goal.overflow_add-at
 overflow_add-at c =
@@ -53,7 +53,7 @@ loop-width-preserved c =
     let p = c.put in (
       p.auto.t ∙ omega arith,
       n.rest,
-      h.invariant.2 ∙ rw (z.0, z.1) (line_step h.at _ _ _ _ h.t _ (omega arith) n.fit p.ensures),
+      h.invariant.2 ∙ rw (z.0, z.1, c.from-width.ensures) (line_step h.at _ _ _ _ h.t _ (omega arith) n.fit (rw c.from-width.ensures at p.ensures)),
     )
 
 pub returns : goal.returns

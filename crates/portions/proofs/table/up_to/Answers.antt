@@ -1,25 +1,21 @@
 -- `portions::table::up_to` meets its contract: antt computes that its table is that of `up_to`. Assumes nothing.
-use Rattle.std.proofs.Common.{ap, ◌∙◌, ◌<◌, arith, rules}
+use Rattle.std.proofs.Common.{ap, inl, inr, ◌∙◌, ◌<◌, ◌≡◌, ℕ, arith}
+use Prim.Native.Nat.{min}
+use Rattle.std.proofs.lemmas.Bool.{cases_lt}
+use Rattle.std.proofs.Math.Nat.{min-eq_left, min-eq_right, min-le_right}
 use Rattle.portions.specs.Sets.{set_of, run, up_to}
 use Rattle.portions.proofs.Entries.{entry, up_to_all}
 use Rattle.portions.proofs.table.up_to.Goals as goal
-use Rattle.portions.proofs.table.up_to.Goals.{Joined-place-gt63, then-place-gt63, else-place-gt63}
 
--- the place is that of an entry
-in_table : (c : Joined-place-gt63) → c.if-place-gt63.place < 64
-in_table c = elim c.if-place-gt63.branch [ then-place-gt63 w ↦ omega arith | else-place-gt63 w ↦ omega arith ]
-
-pub offset_bounds-place : goal.offset_bounds-place
-offset_bounds-place c = let bound = in_table (goal.at.offset_bounds-place c).Joined-place-gt63 in search rules
-
-pub bounds-place : goal.bounds-place
-bounds-place c = let bound = in_table (goal.at.bounds-place c).Joined-place-gt63 in search rules
+-- a number past 63 has the set of 63
+up_to_min : (n : ℕ) → up_to (min n 63) ≡ up_to n
+up_to_min n = elim (cases_lt n 63) [
+  | inl h ↦ ap up_to (min-eq_left (omega arith))
+  | inr h ↦ ap up_to (min-eq_right h) ∙ up_to_all n h
+]
 
 pub returns : goal.returns
 unfolding up_to run set_of
 returns c =
-    entry up_to 64 c.if-place-gt63.place (in_table (goal.at.returns c).Joined-place-gt63)
-    ∙ elim c.if-place-gt63.branch [
-      | then-place-gt63 w ↦ ap up_to w.place-is ∙ up_to_all c.args.n (omega arith)
-      | else-place-gt63 w ↦ ap up_to w.place-is
-    ]
+    let below : c.min.result < 64 = let l = min-le_right c.from.result 63 in omega arith in
+    entry up_to 64 c.min.result below ∙ ap up_to (c.min.ensures ∙ ap (λ n. min n 63) c.from.ensures) ∙ up_to_min c.args.n
