@@ -1,7 +1,7 @@
 -- Worked examples, computed. Assumes nothing.
 use mathlib.Core.Path.{◌≡◌, refl}
 use mathlib.Core.Bool.{true, false}
-use Rattle.lists.specs.Search.{any, first, last, keep, below}
+use Rattle.lists.specs.Search.{first, last, below}
 use Rattle.portions.specs.Sets.{has, set_of, run, up_to, insert, remove, shares, subset, union, size, least, greatest}
 
 -- all the numbers below 64; the last alone; a run that ends before it starts; runs that go past 63

@@ -9,7 +9,8 @@ use borrow.Author.Tests.{eq-eqb, ne_eqb, le-leb, lt-leb, leb-true}
 use lib.Dec.{eqb, leb}
 use lib.ListN.{length, take, drop, set, get_or, length-append, length-set, take-append-drop, drop_of_length-le}
 use lib.Seq.{take_at, drop_at, drop-cons, take-suc-set, length-take-le}
-use Rattle.lists.proofs.Tests.{and_l, and_r, and_i}
+use Rattle.std.proofs.lemmas.Bool.{and_from}
+use Rattle.lists.proofs.Tests.{and_l, and_r}
 use Rattle.std.specs.Prelude.{Option, Some, None}
 use Rattle.std.specs.List.{IsSplitAt}
 use Rattle.std.proofs.lemmas.List.{take_all}
@@ -77,7 +78,7 @@ line_read most (w ∷ ws) s e = go (first_column most w s) refl e (line_read mos
         record {
           text = sym (take-append-drop w s) ∙ ap₂ (λ (a b : List ℕ). a ++ b) f.0 r.text;
           count = ap suc r.count;
-          small = and_i (leb n most) (at_most most row.numbers) (le-leb n most f.1) r.small;
+          small = and_from (leb n most) (at_most most row.numbers) (le-leb n most f.1) r.small;
         }
     go None p q ih = absurd (false≢true q)
 
