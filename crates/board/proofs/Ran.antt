@@ -13,7 +13,7 @@ use Rattle.std.specs.Prelude.{Some}
 use Rattle.lists.specs.Search.{any}
 use Rattle.lists.specs.Distinct.{Distinct}
 use Rattle.lists.specs.Order.{Ascending}
-use Rattle.lists.proofs.Tests.{or_no}
+use Rattle.std.proofs.lemmas.Bool.{or_from}
 use Rattle.lists.proofs.Search.{Member}
 use Rattle.portions.specs.Sets.{has}
 use Rattle.rules.specs.declared.GateNo.{GateNo}
@@ -202,4 +202,4 @@ module _ (κs : Lfts 1) (a : Dens κs call-kinds.ps) (out : Called) (x : AtExit 
       let anew : Bool = agreed_by (authority_no o) (answered s (answer b s room)) in
       subst₂ (λ (t : Bool) (c : Board). StaysIn t o c.authorities)
       (or-false anew ∙ ap (λ (n : ℕ). agreed_by (authority_no o) (answered s n)) (sym p.answered)) (sym p.board)
-      (authority_stays (made s buffer ∷ []) b k.once o m (or_no (ended_by (authority_no o) (answered s (answer b s room))) false told refl))
+      (authority_stays (made s buffer ∷ []) b k.once o m (or_from (ended_by (authority_no o) (answered s (answer b s room))) false told refl))

@@ -8,7 +8,8 @@ use native.Mathlib.Omega.{arith}
 use borrow.Author.Tests.{lt-ltb, ltb-true}
 use lib.Dec.{ltb}
 use lib.ListN.{length}
-use Rattle.lists.proofs.Tests.{same_test, and_l, and_r, and_i}
+use Rattle.std.proofs.lemmas.Bool.{and_from}
+use Rattle.lists.proofs.Tests.{same_test, and_l, and_r}
 use Rattle.lists.proofs.Search.{some_below, below_some}
 use Rattle.portions.specs.Sets.{has, subset, in_first_only}
 use Rattle.portions.proofs.Laws.{has-set_of, set_of_start, set_of_next_in, set_of_next_out}
@@ -35,7 +36,7 @@ unprotected_subset b a few =
     rw not-not (same_test _ _
     (λ e.
     let (g, l, p) = some_below _ unblocked e in
-    below_some 64 left g (omega arith) (same g ∙ and_i _ _ (lt-ltb g _ l) p))
+    below_some 64 left g (omega arith) (same g ∙ and_from _ _ (lt-ltb g _ l) p))
     (λ e.
     let (g, l, p) = some_below 64 left e in
     let q = sym (same g) ∙ p in

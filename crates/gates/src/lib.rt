@@ -12,6 +12,7 @@ use rules::{Gate, GateNo};
 pub fn gate_at(gates: &[Gate], g: GateNo) -> Gate
     ensures { result ≡ gate_at gates.now g.0 }
 {
+    // Kept: beside bookings' `booking_at`; both are one expression of std, which a generic one would only name again.
     gates.get(g.0 as usize).copied().unwrap_or_default()
 }
 
@@ -32,6 +33,7 @@ pub fn needed(gates: &ArrayVec<Gate, 64>, limits: u64) -> u64
     let mut set: u64 = 0;
     for (i, gate) in gates.iter().enumerate() {
         if is_needed(limits, *gate) {
+            // Kept: `try_from` can't fail here, so its error has no value; `(0u16..).zip(gates)` needs answers by hand.
             set = portions::with(set, i as u16);
         }
     }

@@ -3,7 +3,7 @@ use mathlib.Core.Path.{◌≡◌, refl, ap}
 use mathlib.Core.Logic.{inl, inr}
 use mathlib.Core.Bool.{true, cond, false≢true, and-true}
 use mathlib.Core.List.{List, [], ◌∷◌, ◌++◌, append_assoc, append-nil}
-use Prim.Native.Nat.{ℕ, zero, suc, ◌+◌, ◌*◌}
+use Prim.Native.Nat.{ℕ, zero, suc, ◌+◌, ◌*◌, ◌≤◌}
 use native.Mathlib.Omega.{arith}
 use lib.Dec.{eqb}
 use lib.ListN.{length, take, drop, get_or, replicate, length-drop, drop_of_length-le}
@@ -14,7 +14,7 @@ use Rattle.lists.proofs.Tests.{truth, lt_or_le}
 use Rattle.columns.specs.Line.{line}
 use Rattle.reading.specs.Reading.{same_text, read_column, first_column, Row, with_column, row_of}
 use Rattle.columns.proofs.Writing.{total}
-use Rattle.reading.proofs.Rows.{first_part, first_short, line_read}
+use Rattle.reading.proofs.Rows.{first_part, first_short, line_read, ended}
 use Rattle.rules.specs.declared.Seven.{Seven}
 use Rattle.lines.specs.Line.{call_widths, seven_of, line_in}
 
@@ -38,6 +38,28 @@ line_other s h = elim (truth (row_of 65535 call_widths s).whole) [
   | inl e ↦ absurd (h (whole_length 65535 call_widths s e))
   | inr e ↦ rw e
 ]
+
+-- ---- columns read one after the other, from `at` to the line feed: what each holds
+pub data ReadFrom (s : List ℕ) : ℕ → List (Option ℕ) → Type 0 where
+  none : ReadFrom s 42 []
+  next : {at : ℕ} {x : Option ℕ} {xs : List (Option ℕ)} → read_column 65535 (take 6 (drop at s)) ≡ x → ReadFrom s (at + 6) xs
+      → ReadFrom s at (x ∷ xs)
+
+before_end : {s : List ℕ} {at : ℕ} {xs : List (Option ℕ)} → ReadFrom s at xs → at ≤ 42
+before_end none = omega arith
+before_end (next e r) = omega (arith, before_end r)
+
+-- their row
+unfoldable pub row_from : List (Option ℕ) → Row → Row
+row_from [] end = end
+row_from (x ∷ xs) end = with_column x (row_from xs end)
+
+pub row_from_lem : {s : List ℕ} {at : ℕ} {xs : List (Option ℕ)} → length s ≡ 43 → ReadFrom s at xs
+    → row_of 65535 (replicate (length xs) 6) (drop at s) ≡ row_from xs (ended (eqb (get_or s 42 0) 10))
+unfolding row_of row_from same_text
+row_from_lem {s} l none = rw (drop-cons s 42 0 (omega (arith, l)), drop_of_length-le s {i = 43} (omega (arith, l)), and-true)
+row_from_lem {s} {at} l (next e r) =
+    rw (first_part 65535 6 (drop at s) (omega (arith, length-drop at s, before_end r, l)), e, drop-drop 6 at s, row_from_lem l r)
 
 -- ---- a line's columns, read one after the other up to the first that holds no number
 module _ (s : List ℕ) where

@@ -8,7 +8,8 @@ use lib.ListN.{length, drop, get_or, replicate, drop_of_length-le}
 use lib.Seq.{drop-cons}
 use lib.Dec.{leb}
 use borrow.Author.Tests.{leb-true}
-use Rattle.lists.proofs.Tests.{and_l, and_r, and_i}
+use Rattle.std.proofs.lemmas.Bool.{and_from}
+use Rattle.lists.proofs.Tests.{and_l, and_r}
 use Rattle.columns.specs.Column.{fits}
 use Rattle.columns.specs.Line.{all_fit}
 use Rattle.reading.specs.Reading.{row_of}
@@ -60,7 +61,7 @@ unfolding at_most all_fit
 six_fit [] h = refl
 six_fit (n ∷ ns) h =
     let small = leb-true n 65535 (and_l (leb n 65535) (at_most 65535 ns) h) in
-    and_i (fits 6 n) (all_fit (replicate (length ns) 6) ns) (fits_below 6 n (omega arith) (omega arith))
+    and_from (fits 6 n) (all_fit (replicate (length ns) 6) ns) (fits_below 6 n (omega arith) (omega arith))
     (six_fit ns (and_r (leb n 65535) (at_most 65535 ns) h))
 
 -- a line that holds a call is 43 bytes long

@@ -10,7 +10,8 @@ use mathlib.Core.List.Memᴰ
 use mathlib.Core.List.{List, [], ◌∷◌, ◌++◌, Memᴰ}
 use lib.ListN.{length, get_or}
 use Rattle.lists.specs.Search.{any, first, last, keep, change, below}
-use Rattle.lists.proofs.Tests.{truth, clash, or_no_l, or_no_r, or_no}
+use Rattle.std.proofs.lemmas.Bool.{or_from}
+use Rattle.lists.proofs.Tests.{truth, clash, or_no_l, or_no_r}
 
 module _ {A : Type 0} where
   abbrev pub Member : A → List A → Type 0
@@ -29,7 +30,7 @@ module _ {A : Type 0} where
   pub any_none : (test : A → Bool) (xs : List A) → ((x : A) → Member x xs → test x ≡ false) → any test xs ≡ false
   any_none test [] h = refl
   any_none test (x ∷ xs) h =
-      or_no (test x) (any test xs) (h x (Memᴰ.head refl)) (any_none test xs (λ y m. h y (Memᴰ.tail m)))
+      or_from (test x) (any test xs) (h x (Memᴰ.head refl)) (any_none test xs (λ y m. h y (Memᴰ.tail m)))
 
   pub any_append : (test : A → Bool) (xs ys : List A) → any test (xs ++ ys) ≡ (any test xs || any test ys)
   any_append test [] ys = refl
@@ -94,15 +95,6 @@ module _ {A : Type 0} where
   pub keeps : (test : A → Bool) (xs : List A) (x : A) → test x ≡ true → Member x xs → Member x (keep test xs)
   keeps test [] x h m = elim m [ ]
   keeps test (y ∷ ys) x h m = keeps_step test x y ys (keeps test ys x h) h (test y) refl (Memᴰ.cases_cons m)
-
-  append_step : (t : Bool) (x : A) (xs ys : List A) → (cond t (x ∷ xs) xs) ++ ys ≡ cond t (x ∷ (xs ++ ys)) (xs ++ ys)
-  append_step true x xs ys = refl
-  append_step false x xs ys = refl
-
-  pub keep_append : (test : A → Bool) (xs ys : List A) → keep test (xs ++ ys) ≡ keep test xs ++ keep test ys
-  keep_append test [] ys = refl
-  keep_append test (x ∷ xs) ys =
-      ap (λ (l : List A). cond (test x) (x ∷ l) l) (keep_append test xs ys) ∙ sym (append_step (test x) x (keep test xs) (keep test ys))
 
   length_step : (t : Bool) (x : A) (xs : List A) (n : ℕ) → length xs ≤ n → length (cond t (x ∷ xs) xs) ≤ suc n
   length_step true x xs n h = omega arith

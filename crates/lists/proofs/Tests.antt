@@ -2,9 +2,10 @@
 use Prim.Native.Nat.{ℕ, ◌≤◌, ◌<◌}
 use mathlib.Core.Path.{◌≡◌, refl, sym, ◌∙◌}
 use mathlib.Core.Logic.{◌⊎◌, inl, inr, ⊎_elim}
-use mathlib.Core.Bool.{Bool, true, false, not, ◌&&◌, ◌||◌, false≢true, true≢false}
+use mathlib.Core.Bool.{Bool, true, false, ◌&&◌, ◌||◌, false≢true, true≢false}
 use borrow.Author.Tests.{ltb-true, ltb-false}
 use lib.Dec.{ltb}
+use Rattle.std.proofs.lemmas.Bool.{and_from, or_from, or_left, or_right, not-false, not-true}
 
 pub truth : (t : Bool) → (t ≡ true) ⊎ (t ≡ false)
 truth true = inl refl
@@ -28,10 +29,6 @@ pub and_r : (a b : Bool) → (a && b) ≡ true → b ≡ true
 and_r true b h = h
 and_r false b h = absurd (false≢true h)
 
-pub and_i : (a b : Bool) → a ≡ true → b ≡ true → (a && b) ≡ true
-and_i true b p q = q
-and_i false b p q = p
-
 -- a conjunction that is false, with its first part true
 pub and_no_r : (a b : Bool) → (a && b) ≡ false → a ≡ true → b ≡ false
 and_no_r true b h p = h
@@ -45,34 +42,10 @@ pub or_no_r : (a b : Bool) → (a || b) ≡ false → b ≡ false
 or_no_r true b h = absurd (true≢false h)
 or_no_r false b h = h
 
-pub or_no : (a b : Bool) → a ≡ false → b ≡ false → (a || b) ≡ false
-or_no true b p q = p
-or_no false b p q = q
-
-pub or_cases : (a b : Bool) → (a || b) ≡ true → (a ≡ true) ⊎ (b ≡ true)
-or_cases true b h = inl refl
-or_cases false b h = inr h
-
-pub or_yes_l : (a b : Bool) → a ≡ true → (a || b) ≡ true
-or_yes_l true b h = refl
-or_yes_l false b h = absurd (false≢true h)
-
-pub or_yes_r : (a b : Bool) → b ≡ true → (a || b) ≡ true
-or_yes_r true b h = refl
-or_yes_r false b h = h
-
-pub not_no : (t : Bool) → not t ≡ false → t ≡ true
-not_no true h = refl
-not_no false h = sym h
-
-pub not_yes : (t : Bool) → not t ≡ true → t ≡ false
-not_yes true h = sym h
-not_yes false h = refl
-
 -- for `search`: from a test to its parts, and from the parts to the test
-pub ruleset told = (not_no, not_yes, and_l, and_r, or_no_l, or_no_r)
+pub ruleset told = (not-false, not-true, and_l, and_r, or_no_l, or_no_r)
 
-pub ruleset shown = (and_i, or_no, or_yes_l, or_yes_r, and_no_r)
+pub ruleset shown = (and_from, or_from, or_left, or_right, and_no_r)
 
 -- of two numbers the first is below the second, or the second is no greater
 pub lt_or_le : (a b : ℕ) → (a < b) ⊎ (b ≤ a)

@@ -1,21 +1,24 @@
 -- Laws of a plan's text: of one line, of the lines of gates as the loop reads them, and of the whole text. Assumes nothing.
 use mathlib.Core.Path.{◌≡◌, refl, sym, ap, ◌∙◌}
-use mathlib.Core.Bool.{Bool, true, false, cond, not, ◌&&◌, and_assoc}
+use mathlib.Core.Bool.{Bool, true, false, cond, not, ◌&&◌, and_assoc, and-false}
 use mathlib.Core.List.{List, [], ◌∷◌, ◌++◌, append_assoc, append-nil}
 use Prim.Native.Nat.{ℕ, zero, suc, ◌+◌, ◌-◌, ◌*◌, ◌≤◌, ◌<◌}
 use native.Mathlib.Omega.{arith}
 use native.Mathlib.Nat.{sub-zero}
-use borrow.Author.Tests.{leb-true, eq-eqb, ne_eqb}
-use borrow.Author.Rules.{part_to_end}
+use borrow.Author.Tests.{leb-true, eq-eqb, eqb-true, ne_eqb}
+use Rattle.std.specs.List.{IsSplitAt}
 use mathlib.Core.Logic.{inl, inr}
 use Rattle.std.proofs.lemmas.List.{take_all}
 use lib.Dec.{eqb, leb}
-use lib.ListN.{length, take, drop, get_or, length-take, length-drop}
+use lib.ListN.{length, take, drop, get_or, length-take}
 use lib.Seq.{drop-drop}
-use Rattle.std.specs.Prelude.{Option, Some, None}
-use Rattle.lists.proofs.Tests.{told, lt_or_le}
-use Rattle.reading.specs.Reading.{read_column, first_column, Row, with_column, row_of, row_in}
+use Rattle.std.specs.Prelude.{Option, Some, None, Result, Ok, Err}
+use Rattle.std.specs.Result.{OkIff, result_ok}
+use Rattle.lists.proofs.Tests.{told, lt_or_le, same_test}
+use Rattle.reading.specs.Reading.{read_column, first_column, Row, with_column, row_of, row_in, numbers_in}
+use Rattle.reading.proofs.Scan.{unread}
 use Rattle.reading.proofs.Reading.{read_most}
+use Rattle.reading.proofs.Rows.{numbers_asked}
 use Rattle.rules.specs.declared.Gate.{Gate}
 use Rattle.rules.specs.Plan.{plan_widths, plan_line, plan_number, is_head, is_place, is_gate, gate_on, are_gates, gates_on, is_plan, open_board}
 use Rattle.plan.specs.declared.text.Plan.{Plan}
@@ -43,7 +46,7 @@ number_most most (w ∷ ws) s i =
     number_step most i (first_column most w s) (row_of most ws (drop w s)) (λ n. first-most most w n s) (number_most most ws (drop w s))
 
 -- so each number of a whole row is
-pub row_most : (most : ℕ) (ws s ns : List ℕ) (i : ℕ) → Some ns ≡ row_in most ws s → get_or ns i 0 ≤ most
+row_most : (most : ℕ) (ws s ns : List ℕ) (i : ℕ) → Some ns ≡ row_in most ws s → get_or ns i 0 ≤ most
 unfolding row_in
 row_most most ws s ns i e = go (row_of most ws s).whole e
   where
@@ -51,38 +54,58 @@ row_most most ws s ns i e = go (row_of most ws s).whole e
     go true q = let same : ns ≡ (row_of most ws s).numbers = cc in rw same (number_most most ws s i)
     go false q = cc
 
--- ---- a text's first line
-pub first_bytes : (n : ℕ) (text : List ℕ) → n ≤ 19 → (n < 19 → length text ≤ n) → take n text ≡ take 19 text
-first_bytes n text h short = elim (lt_or_le n 19) [
-  | inl l ↦ take_all n text (short l) ∙ sym (take_all 19 text (omega (arith, short l)))
-  | inr l ↦ let same : n ≡ 19 = omega arith in rw same
-]
+-- and is itself in 16 bits, where none is greater than they hold
+module _ {E : Type 0} (r : Result ℕ E) (n : ℕ) (of : OkIff r (n < 65536) n) (small : n ≤ 65535) where
+  narrowed : result_ok r ≡ Some n
+  narrowed = go r of
+    where
+      go : (r : Result ℕ E) → OkIff r (n < 65536) n → result_ok r ≡ Some n
+      go (Ok m) t = ap Some t.1
+      go (Err e) t = absurd (t (omega arith))
 
+  pub narrowed_is : (m : ℕ) → Some m ≡ result_ok r → m ≡ n
+  narrowed_is m e = cc (e ∙ narrowed)
+
+  pub narrowed_some {ℓ} : {A : Type ℓ} → None ≡ result_ok r → A
+  narrowed_some e = unread (e ∙ narrowed)
+
+-- ---- a line
 abbrev first_three : List ℕ → List ℕ
 first_three ns = get_or ns 0 0 ∷ get_or ns 1 0 ∷ get_or ns 2 0 ∷ []
 
-module _ (text part : List ℕ) (e : part ≡ take 19 text) where
-  pub line_none : None ≡ row_in 65535 plan_widths part → None ≡ line_in text
-  unfolding row_in line_in plan_line plan_number
-  line_none h = go (row_of 65535 plan_widths (take 19 text)).whole (rw e at h)
-    where
-      ns : List ℕ
-      ns = (row_of 65535 plan_widths (take 19 text)).numbers
+-- the three numbers that are asked for are those of the row
+module _ (line : List ℕ) where
+  asked : numbers_in 3 65535 plan_widths line ≡ row_in 65535 plan_widths line
+  asked = numbers_asked 3 65535 plan_widths line refl
 
-      go : (t : Bool) → None ≡ cond t (Some ns) None → None ≡ cond t (Some (first_three ns)) None
-      go true q = cc
-      go false q = refl
+  pub line_most : (ns : List ℕ) (i : ℕ) → Some ns ≡ numbers_in 3 65535 plan_widths line → get_or ns i 0 ≤ 65535
+  line_most ns i h = row_most 65535 plan_widths line ns i (h ∙ asked)
 
-  pub line_some : (ns : List ℕ) → Some ns ≡ row_in 65535 plan_widths part → Some (first_three ns) ≡ line_in text
-  unfolding row_in line_in plan_line plan_number
-  line_some ns h = go (row_of 65535 plan_widths (take 19 text)).whole (rw e at h)
-    where
-      ms : List ℕ
-      ms = (row_of 65535 plan_widths (take 19 text)).numbers
+  module _ (long : length line ≡ 19) where
+    alone : take 19 line ≡ line
+    alone = take_all 19 line (omega (arith, long))
 
-      go : (t : Bool) → Some ns ≡ cond t (Some ms) None → Some (first_three ns) ≡ cond t (Some (first_three ms)) None
-      go true q = let same : ns ≡ ms = cc in rw same
-      go false q = cc
+    pub line_none : None ≡ numbers_in 3 65535 plan_widths line → None ≡ line_in line
+    unfolding row_in line_in plan_line plan_number
+    line_none h = rw alone (go (row_of 65535 plan_widths line).whole (h ∙ asked))
+      where
+        ns : List ℕ
+        ns = (row_of 65535 plan_widths line).numbers
+
+        go : (t : Bool) → None ≡ cond t (Some ns) None → None ≡ cond t (Some (first_three ns)) None
+        go true q = cc
+        go false q = refl
+
+    pub line_some : (ns : List ℕ) → Some ns ≡ numbers_in 3 65535 plan_widths line → Some (first_three ns) ≡ line_in line
+    unfolding row_in line_in plan_line plan_number
+    line_some ns h = rw alone (go (row_of 65535 plan_widths line).whole (h ∙ asked))
+      where
+        ms : List ℕ
+        ms = (row_of 65535 plan_widths line).numbers
+
+        go : (t : Bool) → Some ns ≡ cond t (Some ms) None → Some (first_three ns) ≡ cond t (Some (first_three ms)) None
+        go true q = let same : ns ≡ ms = cc in rw same
+        go false q = cc
 
 -- what is known of it where it is none, and where it is three numbers
 line_broken : (text : List ℕ) → None ≡ line_in text → (plan_line text).whole ≡ false
@@ -140,10 +163,18 @@ pub gate_some : (portions : ℕ) (text ns : List ℕ) (t : Bool) → Some ns ≡
 unfolding gate_in is_gate gate_on
 gate_some portions text ns t e h = let k = line_three text ns e in rw (k.whole, k.x, k.y, k.z, ← h, ← and_assoc)
 
--- a gate stands on a text's first line alone
-first_line : (portions : ℕ) (text : List ℕ) → gate_in portions (take 19 text) ≡ gate_in portions text
-unfolding gate_in is_gate gate_on plan_number plan_line
-first_line portions text = rw (take_all 19 (take 19 text) (omega (arith, length-take 19 text)))
+-- a head and a gate stand on a text's first line alone
+module _ (text : List ℕ) where
+  cut_again : take 19 (take 19 text) ≡ take 19 text
+  cut_again = take_all 19 (take 19 text) (omega (arith, length-take 19 text))
+
+  first_head : head_in (take 19 text) ≡ head_in text
+  unfolding head_in is_head plan_number plan_line
+  first_head = rw cut_again
+
+  first_gate : (portions : ℕ) → gate_in portions (take 19 text) ≡ gate_in portions text
+  unfolding gate_in is_gate gate_on plan_number plan_line
+  first_gate portions = rw cut_again
 
 -- ---- the lines of gates, i of them read
 module _ (portions count : ℕ) (text : List ℕ) where
@@ -176,7 +207,7 @@ module _ (portions count : ℕ) (text : List ℕ) where
 
       gate_here : gate_in portions line ≡ gate_in portions here
       unfolding here gate_in
-      gate_here = ap (gate_in portions) of ∙ first_line portions here
+      gate_here = ap (gate_in portions) of ∙ first_gate here portions
 
       pub not_gate : None ≡ gate_in portions line → false ≡ are_gates portions count text
       unfolding are_gates gate_in here
@@ -212,9 +243,14 @@ gates_count (suc n) text = ap suc (gates_count n (drop 19 text))
 abbrev both : ℕ → ℕ → Option (ℕ × ℕ)
 both p g = Some (p, g)
 
-pub plan_no_head : (text : List ℕ) → None ≡ head_in text → false ≡ is_plan text
+-- a plan has a first line
+pub plan_too_short : (text : List ℕ) → length text < 19 → false ≡ is_plan text
+unfolding is_plan
+plan_too_short text h = rw (ne_eqb (length text) (19 * (1 + plan_number 1 text)) (λ e. omega arith), and-false)
+
+pub plan_no_head : (text line : List ℕ) → line ≡ take 19 text → None ≡ head_in line → false ≡ is_plan text
 unfolding head_in is_plan
-plan_no_head text e = go (is_head text) refl e
+plan_no_head text line of e = go (is_head text) refl (rw (of, first_head text) at e)
   where
     go : (t : Bool) → is_head text ≡ t → None ≡ cond t (both (plan_number 0 text) (plan_number 1 text)) None → false ≡ is_plan text
     go true h q = cc
@@ -235,38 +271,43 @@ plan_head text p g e = go (is_head text) refl e
         record { head = h; portions = ap (λ (x : ℕ × ℕ). x.0) same; gates = ap (λ (x : ℕ × ℕ). x.1) same }
     go false h q = cc
 
-module _ (text : List ℕ) (p n g : ℕ) (e : both p n ≡ head_in text) (count : g ≡ n) where
+-- the text split into its first line, which is a head, and the lines of gates
+module _ (text line gates : List ℕ) (p n g : ℕ) (cut : IsSplitAt text 19 line gates) (e : both p n ≡ head_in line) (count : g ≡ n) where
   known : Head text p g
-  known = plan_head text p g (rw count e)
+  known = plan_head text p g (rw (count, ← first_head text, ← cut.1) e)
 
-  pub plan_not_long : (length text ≡ 19 * (1 + g) → ⊥) → false ≡ is_plan text
+  long_as : eqb (length text) (19 * (1 + g)) ≡ eqb (length gates) (19 * g)
+  long_as = same_test (eqb (length text) (19 * (1 + g))) (eqb (length gates) (19 * g))
+      (λ t. eq-eqb (length gates) (19 * g) (omega (arith, eqb-true (length text) (19 * (1 + g)) t, cut.4)))
+      (λ t. eq-eqb (length text) (19 * (1 + g)) (omega (arith, eqb-true (length gates) (19 * g) t, cut.4)))
+
+  pub plan_not_long : (length gates ≡ 19 * g → ⊥) → false ≡ is_plan text
   unfolding is_plan
-  plan_not_long h = rw (known.head, known.portions, known.gates, ne_eqb (length text) (19 * (1 + g)) h)
+  plan_not_long h = rw (known.head, known.portions, known.gates, long_as, ne_eqb (length gates) (19 * g) h)
 
-  module _ (long : length text ≡ 19 * (1 + g)) where
+  module _ (long : length gates ≡ 19 * g) where
     -- what reading the gates asks
-    pub gates_asked : (length (take (length text - 19) (drop 19 text)) ≡ 19 * g) × (g ≤ 64)
+    pub gates_asked : (length gates ≡ 19 * g) × (g ≤ 64)
     unfolding is_head
     gates_asked =
         let small : leb (plan_number 1 text) 64 ≡ true = search (told, known.head) in
-        (rw (part_to_end, length-drop) (omega arith), omega (arith, leb-true (plan_number 1 text) 64 small, known.gates))
+        (long, omega (arith, leb-true (plan_number 1 text) 64 small, known.gates))
 
-    plan_is : (t : Bool) → t ≡ are_gates p g (take (length text - 19) (drop 19 text)) → t ≡ is_plan text
+    plan_is : (t : Bool) → t ≡ are_gates p g gates → t ≡ is_plan text
     unfolding is_plan
-    plan_is t h = rw (known.head, known.portions, known.gates, eq-eqb (length text) (19 * (1 + g)) long) (h ∙ rw part_to_end)
+    plan_is t h = rw (known.head, known.portions, known.gates, long_as, eq-eqb (length gates) (19 * g) long, ← cut.2) h
 
-    pub plan_no_gates : false ≡ are_gates p g (take (length text - 19) (drop 19 text)) → false ≡ is_plan text
+    pub plan_no_gates : false ≡ are_gates p g gates → false ≡ is_plan text
     plan_no_gates h = plan_is false h
 
-    pub plan_is_read : (q : Plan) → q.portions ≡ p → true ≡ are_gates p g (take (length text - 19) (drop 19 text))
-        → q.gates.items ≡ gates_on g (take (length text - 19) (drop 19 text)) → PlanRead text (Some q)
+    pub plan_is_read : (q : Plan) → q.portions ≡ p → true ≡ are_gates p g gates → q.gates.items ≡ gates_on g gates → PlanRead text (Some q)
     unfolding open_board is_head
     plan_is_read q of h same =
         let all = plan_is true h in
         let small : leb (plan_number 0 text) 64 ≡ true = search (told, known.head) in
         record {
           some = all;
-          board = rw (← all, known.portions, known.gates, of, same, part_to_end);
+          board = rw (← all, known.portions, known.gates, of, same, cut.2);
           portions = omega (arith, leb-true (plan_number 0 text) 64 small, known.portions);
-          gates = omega (arith, ap length same, gates_count g (take (length text - 19) (drop 19 text)), gates_asked.1);
+          gates = omega (arith, ap length same, gates_count g gates, gates_asked.1);
         }

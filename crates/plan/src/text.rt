@@ -14,20 +14,24 @@ pub struct Plan {
     pub gates: ArrayVec<Gate, 64>,
 }
 
-// The three numbers on the text's first line, of 19 bytes.
-fn read_line(text: &[u8]) -> Option<[u16; 3]>
-    ensures { result ≡ line_in text.now }
+// The three numbers on a line.
+fn read_line(line: &[u8]) -> Option<[u16; 3]>
+    requires { length line.now ≡ 19 }
+    ensures { result ≡ line_in line.now }
 {
-    let line = &text[..text.len().min(19)];
-    let [x, y, z] = reading::read_row(line, &[6; 3], 65535)?;
-    Some([x as u16, y as u16, z as u16])
+    let [x, y, z] = reading::read_row::<3>(line, &[6; 3], 65535)?;
+    let first = u16::try_from(x).ok()?;
+    let second = u16::try_from(y).ok()?;
+    let third = u16::try_from(z).ok()?;
+    Some([first, second, third])
 }
 
 // P and G off line one, which is P, G, 0: P is 1 to 64, G at most 64.
-fn read_head(text: &[u8]) -> Option<(u16, u16)>
-    ensures { result ≡ head_in text.now }
+fn read_head(line: &[u8]) -> Option<(u16, u16)>
+    requires { length line.now ≡ 19 }
+    ensures { result ≡ head_in line.now }
 {
-    let [portions, gates, end] = read_line(text)?;
+    let [portions, gates, end] = read_line(line)?;
     let is_head = (1 <= portions) & (portions <= 64) & (gates <= 64) & (end == 0);
     if is_head {
         Some((portions, gates))
@@ -44,11 +48,12 @@ fn is_place(portions: u16, place: u16) -> bool
     (place < portions) | (place == 99)
 }
 
-// The gate on the text's first line: from and to are places and differ, and the kind is 1 to 4.
-fn read_gate(text: &[u8], portions: u16) -> Option<Gate>
-    ensures { result ≡ gate_in portions text.now }
+// The gate on a line: from and to are places and differ, and the kind is 1 to 4.
+fn read_gate(line: &[u8], portions: u16) -> Option<Gate>
+    requires { length line.now ≡ 19 }
+    ensures { result ≡ gate_in portions line.now }
 {
-    let [from, to, kind] = read_line(text)?;
+    let [from, to, kind] = read_line(line)?;
     let is_gate = is_place(portions, from)
         & is_place(portions, to)
         & (from != to)
@@ -78,11 +83,12 @@ fn read_gates(text: &[u8], portions: u16, count: usize) -> Option<ArrayVec<Gate,
 pub fn read_plan(text: &[u8]) -> Option<Plan>
     ensures { PlanRead text.now result }
 {
-    let (portions, gate_count) = read_head(text)?;
+    let (head, gate_lines) = text.split_at_checked(19)?;
+    let (portions, gate_count) = read_head(head)?;
     let count = usize::from(gate_count);
-    if text.len() != 19 * (1 + count) {
+    if gate_lines.len() != 19 * count {
         return None;
     }
-    let gates = read_gates(&text[19..], portions, count)?;
+    let gates = read_gates(gate_lines, portions, count)?;
     Some(Plan { portions, gates })
 }

@@ -13,7 +13,8 @@ use lib.Dec.{eqb, ltb, leb, leb-zero, leb-suc-zero, leb-suc-suc}
 use lib.Arith.{digits_mod, lt-one}
 use lib.Pow.{pow_pos, pow_mono, shr-shr, ones_lt}
 use lib.Bits.{bit_and, bit_or, and_shr, or_shr, and_step, or_step, and_mask, shifted_half, shifted_even}
-use Rattle.lists.proofs.Tests.{lt_or_le, same_test, and_l, and_r, and_i, clash}
+use Rattle.std.proofs.lemmas.Bool.{and_from}
+use Rattle.lists.proofs.Tests.{lt_or_le, same_test, and_l, and_r, clash}
 use Rattle.portions.specs.Sets.{has}
 
 -- what holds of both digits holds of a number's last digit; what holds of every two, of the last digits of two numbers
@@ -116,7 +117,7 @@ pub has_power : (p n : ℕ) → has p (1 * 2 ^ n) ≡ eqb p n
 has_power p n =
     rw (has_up, has_ones 1)
     (same_test _ _ (λ h. eq-eqb p n (omega (arith, leb-true n p (and_l _ _ h), ltb-true (p - n) 1 (and_r (leb n p) _ h))))
-    (λ h. let e : p ≡ n = eqb-true p n h in and_i (leb n p) _ (le-leb n p (omega arith)) (lt-ltb (p - n) 1 (omega arith))))
+    (λ h. let e : p ≡ n = eqb-true p n h in and_from (leb n p) _ (le-leb n p (omega arith)) (lt-ltb (p - n) 1 (omega arith))))
 
 -- ---- the same in words of 64 digits
 

@@ -9,7 +9,8 @@ use borrow.Author.Tests.{leb-true, le-leb}
 use lib.Dec.{leb}
 use lib.Pow.{pow_pos}
 use lib.ListN.{get_or}
-use Rattle.lists.proofs.Tests.{same_test, and_l, and_r, and_i}
+use Rattle.std.proofs.lemmas.Bool.{and_from}
+use Rattle.lists.proofs.Tests.{same_test, and_l, and_r}
 use Rattle.portions.specs.Sets.{between, run, up_to}
 use Rattle.portions.proofs.Bits.{has_shifted}
 use Rattle.portions.proofs.Laws.{in_set_of, is_set_of, set_of_agree}
@@ -43,9 +44,9 @@ up_to_all n h = set_of_agree 64 (between 0 63) (between 0 n) (λ p l. rw (le-leb
 between_shifted : (f l p : ℕ) → f ≤ l → (leb f p && leb (p - f) (l - f)) ≡ between f l p
 between_shifted f l p h =
     same_test _ _
-    (λ e. and_i (leb f p) (leb p l) (and_l (leb f p) _ e)
+    (λ e. and_from (leb f p) (leb p l) (and_l (leb f p) _ e)
     (le-leb p l (omega (arith, leb-true f p (and_l (leb f p) _ e), leb-true (p - f) (l - f) (and_r (leb f p) _ e)))))
-    (λ e. and_i (leb f p) (leb (p - f) (l - f)) (and_l (leb f p) _ e) (le-leb (p - f) (l - f) (omega (arith, leb-true p l (and_r (leb f p) _ e)))))
+    (λ e. and_from (leb f p) (leb (p - f) (l - f)) (and_l (leb f p) _ e) (le-leb (p - f) (l - f) (omega (arith, leb-true p l (and_r (leb f p) _ e)))))
 
 -- the numbers up to l less f, shifted by f, are the run from f to l
 pub run_shifted : (f l : ℕ) → f ≤ l → up_to (l - f) * 2 ^ f % 2 ^ 64 ≡ run f l

@@ -16,7 +16,8 @@ use lib.Count.{ones, ones_cat, ones-ones}
 use lib.ListN.{length}
 use Rattle.lists.specs.Search.{keep, below}
 use Rattle.lists.proofs.Search.{none_below, below_none, some_below, below_some}
-use Rattle.lists.proofs.Tests.{told, lt_or_le, truth, clash, same_test, and_l, and_r, and_i, and_no_r, or_no, or_cases, not_yes, not_no}
+use Rattle.std.proofs.lemmas.Bool.{and_from, or_from, or_cases, not-true, not-false}
+use Rattle.lists.proofs.Tests.{told, lt_or_le, truth, clash, same_test, and_l, and_r, and_no_r}
 use Rattle.portions.specs.Sets.{has, set_of, between, run, is_or_in, insert, is_not_and_in, remove, in_both, shares, in_first_only, subset}
 use Rattle.portions.specs.Sets.{in_either, union, is_member, size}
 use Rattle.portions.proofs.Bits.{digit, same_members, has_none, has_high, has_and, has_or, has_power}
@@ -85,7 +86,7 @@ has-run f l p = has-set_of 64 (between f l) p
 
 -- a number below 64 from f to l is a member
 pub run_in : (f l p : ℕ) → f ≤ p → p ≤ l → p < 64 → has p (run f l) ≡ true
-run_in f l p hf hl h = has-run f l p ∙ and_i _ _ (lt-ltb p 64 h) (and_i _ _ (le-leb f p hf) (le-leb p l hl))
+run_in f l p hf hl h = has-run f l p ∙ and_from _ _ (lt-ltb p 64 h) (and_from _ _ (le-leb f p hf) (le-leb p l hl))
 
 -- a member is a number from f to l
 pub in_run : (f l p : ℕ) → has p (run f l) ≡ true → (f ≤ p) × (p ≤ l)
@@ -113,7 +114,7 @@ insert_lt p set = set_of_lt 64 (is_or_in p set)
 pub has-insert : (p set q : ℕ) → p < 64 → set < 2 ^ 64 → has q (insert p set) ≡ eqb q p || has q set
 unfolding insert
 has-insert p set q l h =
-    closed_set_of 64 (is_or_in p set) q (λ out. or_no _ _ (ne_eqb q p (λ e. omega arith)) (has_high 64 q set h out))
+    closed_set_of 64 (is_or_in p set) q (λ out. or_from _ _ (ne_eqb q p (λ e. omega arith)) (has_high 64 q set h out))
 
 -- the set without p is a set of numbers below 64
 pub remove_lt : (p set : ℕ) → remove p set < 2 ^ 64
@@ -185,7 +186,7 @@ set_of_next_out n test e = rw (add-one, e, zero-add)
 -- a common member: the two sets share
 pub shares_some : (a b p : ℕ) → p < 64 → has p a ≡ true → has p b ≡ true → shares a b ≡ true
 unfolding shares
-shares_some a b p l ha hb = below_some 64 (in_both a b) p l (and_i _ _ ha hb)
+shares_some a b p l ha hb = below_some 64 (in_both a b) p l (and_from _ _ ha hb)
 
 -- the two sets share: there is a common member
 pub some_shares : (a b : ℕ) → shares a b ≡ true → (p : ℕ) × (p < 64) × (has p a ≡ true) × (has p b ≡ true)
@@ -202,9 +203,9 @@ shares_and a b h =
     λ e. same_members 64 (bit_and a b) 0 (lt_of_le_of_lt (and_le_l a b) h) (pow_pos 64)
     (λ p l. has_and p a b ∙ none_below 64 (in_both a b) e p l ∙ sym (has_none p)) in
     let member : (p : ℕ) → has p a ≡ true → has p b ≡ true → bit_and a b ≡ 0 → ⊥ =
-    λ p ha hb z. clash (and_i _ _ ha hb) (sym (has_and p a b) ∙ ap (has p) z ∙ has_none p) in
+    λ p ha hb z. clash (and_from _ _ ha hb) (sym (has_and p a b) ∙ ap (has p) z ∙ has_none p) in
     same_test _ _ (λ e. let w = some_shares a b e in ap not (ne_eqb _ 0 (member w.0 w.2 w.3)))
-    (λ e. ⊎_elim (λ q. q) (λ q. absurd (eqb-false _ 0 (not_yes _ e) (none q))) (truth (shares a b)))
+    (λ e. ⊎_elim (λ q. q) (λ q. absurd (eqb-false _ 0 (not-true _ e) (none q))) (truth (shares a b)))
 
 -- the order of the two does not matter
 pub shares_comm : (a b : ℕ) → shares a b ≡ shares b a
@@ -218,7 +219,7 @@ shares_comm a b = same_test _ _ (turned a b) (turned b a)
 -- a is a subset: each member of a is one of b
 pub subset_each : (a b : ℕ) → subset a b ≡ true → (p : ℕ) → p < 64 → has p a ≡ true → has p b ≡ true
 unfolding subset
-subset_each a b e p l h = not_no _ (and_no_r _ _ (none_below 64 (in_first_only a b) (not_yes _ e) p l) h)
+subset_each a b e p l h = not-false _ (and_no_r _ _ (none_below 64 (in_first_only a b) (not-true _ e) p l) h)
 
 -- each member of a is one of b: a is a subset
 pub each_subset : (a b : ℕ) → ((p : ℕ) → p < 64 → has p a ≡ true → has p b ≡ true) → subset a b ≡ true
@@ -232,7 +233,7 @@ pub subset_and : (a b : ℕ) → a < 2 ^ 64 → subset a b ≡ eqb (bit_and a b)
 subset_and a b h =
     same_test _ _
     (λ e. eq-eqb _ a (same_members 64 _ a (lt_of_le_of_lt (and_le_l a b) h) h
-    (λ p l. has_and p a b ∙ same_test _ _ (and_l _ _) (λ q. and_i _ _ q (subset_each a b e p l q)))))
+    (λ p l. has_and p a b ∙ same_test _ _ (and_l _ _) (λ q. and_from _ _ q (subset_each a b e p l q)))))
     (λ e. each_subset a b (λ p l q. and_r (has p a) _ (sym (has_and p a b) ∙ ap (has p) (eqb-true _ a e) ∙ q)))
 
 -- ---- how many members

@@ -29,6 +29,7 @@ pub fn run(first: u16, last: u16) -> u64
 }
 
 // The two sets share a member.
+#[tactic(auto, using(crate::proofs::Laws::shares_and))]
 pub fn overlap(a: u64, b: u64) -> bool
     ensures { result ≡ Sets.shares a b }
 {
@@ -36,6 +37,7 @@ pub fn overlap(a: u64, b: u64) -> bool
 }
 
 // Every member of a is a member of b.
+#[tactic(auto, using(crate::proofs::Laws::subset_and))]
 pub fn subset(a: u64, b: u64) -> bool
     ensures { result ≡ Sets.subset a b }
 {
@@ -71,6 +73,7 @@ pub fn size(set: u64) -> u32
 }
 
 // The least member of the set, 64 where it has none.
+#[tactic(auto, using(crate::proofs::Ends::least_zeros))]
 pub fn least(set: u64) -> u32
     ensures { result ≡ Sets.least set }
 {

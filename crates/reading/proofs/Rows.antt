@@ -5,17 +5,18 @@ use mathlib.Core.List.{List, [], ◌∷◌, ◌++◌, append_assoc, append-nil}
 use Prim.Native.Nat.{ℕ, suc, ◌+◌, ◌≤◌, ◌<◌}
 use native.Mathlib.Omega.{arith}
 use native.Mathlib.Numerals.{add-one}
-use borrow.Author.Tests.{ne_eqb, le-leb, lt-leb, leb-true}
+use borrow.Author.Tests.{eq-eqb, ne_eqb, le-leb, lt-leb, leb-true}
 use lib.Dec.{eqb, leb}
 use lib.ListN.{length, take, drop, set, get_or, length-append, length-set, take-append-drop, drop_of_length-le}
 use lib.Seq.{take_at, drop_at, drop-cons, take-suc-set, length-take-le}
-use Rattle.lists.proofs.Tests.{and_l, and_r, and_i}
+use Rattle.std.proofs.lemmas.Bool.{and_from}
+use Rattle.lists.proofs.Tests.{and_l, and_r}
 use Rattle.std.specs.Prelude.{Option, Some, None}
 use Rattle.std.specs.List.{IsSplitAt}
 use Rattle.std.proofs.lemmas.List.{take_all}
 use Rattle.columns.specs.Column.{column, fits}
 use Rattle.columns.specs.Line.{line, all_fit}
-use Rattle.reading.specs.Reading.{same_text, read_column, first_column, Row, with_column, row_of, row_in}
+use Rattle.reading.specs.Reading.{same_text, read_column, first_column, Row, with_column, row_of, row_in, numbers_in}
 use Rattle.reading.proofs.Scan.{unread}
 use Rattle.reading.proofs.Texts.{same_eq}
 use Rattle.columns.proofs.Writing.{column-length}
@@ -77,7 +78,7 @@ line_read most (w ∷ ws) s e = go (first_column most w s) refl e (line_read mos
         record {
           text = sym (take-append-drop w s) ∙ ap₂ (λ (a b : List ℕ). a ++ b) f.0 r.text;
           count = ap suc r.count;
-          small = and_i (leb n most) (at_most most row.numbers) (le-leb n most f.1) r.small;
+          small = and_from (leb n most) (at_most most row.numbers) (le-leb n most f.1) r.small;
         }
     go None p q ih = absurd (false≢true q)
 
@@ -111,22 +112,33 @@ behind ns row = record { numbers = ns ++ row.numbers; whole = row.whole }
 abbrev pub ended : Bool → Row
 ended whole = record { numbers = []; whole = whole }
 
-module _ (most : ℕ) (ws s : List ℕ) where
+module _ (count most : ℕ) (ws s : List ℕ) where
+  -- as many numbers as columns are the row's
+  pub numbers_asked : length ws ≡ count → numbers_in count most ws s ≡ row_in most ws s
+  unfolding numbers_in
+  numbers_asked a = rw (eq-eqb (length ws) count a)
+
+  -- another number of columns holds nothing that is asked for
+  pub more_or_fewer : (length ws ≡ count → ⊥) → None ≡ numbers_in count most ws s
+  unfolding numbers_in
+  more_or_fewer h = rw (ne_eqb (length ws) count h)
+
   -- k columns are read, and rest stands behind them
   pub record SoFar (k : ℕ) (numbers rest : List ℕ) : Type 0 where
+    pub asked : length ws ≡ count
     pub places : length numbers ≡ length ws
     pub row : row_of most ws s ≡ behind (take k numbers) (row_of most (drop k ws) rest)
 
-  pub none_yet : (numbers : List ℕ) → length numbers ≡ length ws → SoFar 0 numbers s
-  none_yet numbers e = record { places = e; row = refl }
+  pub none_yet : (numbers : List ℕ) → length ws ≡ count → length numbers ≡ count → SoFar 0 numbers s
+  none_yet numbers a e = record { asked = a; places = e ∙ sym a; row = refl }
 
   module _ (k : ℕ) (numbers rest : List ℕ) (so_far : SoFar k numbers rest) where
     -- the answer, where nothing more is read
-    row_ended : (whole : Bool) → row_of most (drop k ws) rest ≡ ended whole → row_in most ws s ≡ cond whole (Some (take k numbers)) None
+    row_ended : (whole : Bool) → row_of most (drop k ws) rest ≡ ended whole → numbers_in count most ws s ≡ cond whole (Some (take k numbers)) None
     unfolding row_in
-    row_ended whole e = rw (so_far.row, e, append-nil (take k numbers))
+    row_ended whole e = numbers_asked so_far.asked ∙ rw (so_far.row, e, append-nil (take k numbers))
 
-    row_stop : k < length ws → first_column most (get_or ws k 0) rest ≡ None → None ≡ row_in most ws s
+    row_stop : k < length ws → first_column most (get_or ws k 0) rest ≡ None → None ≡ numbers_in count most ws s
     unfolding row_of
     row_stop h e = sym (row_ended false (rw (drop-cons ws k 0, e)))
 
@@ -137,6 +149,7 @@ module _ (most : ℕ) (ws s : List ℕ) where
         let m = row_of most (drop (suc k) ws) (drop (get_or ws k 0) rest) in
         let l : k < length numbers = omega (arith, so_far.places) in
         record {
+          asked = so_far.asked;
           places = simp length-set so_far.places;
           row =
               so_far.row ∙ rw (add-one, drop-cons ws k 0 h, e, take-suc-set numbers k n l)
@@ -145,14 +158,14 @@ module _ (most : ℕ) (ws s : List ℕ) where
 
     -- the column at k, w bytes wide: it is cut short, or it is split off what is left
     module _ (w : ℕ) (width : w ≡ get_or ws k 0) (more : k < length ws) where
-      pub row_short : length rest < w → None ≡ row_in most ws s
+      pub row_short : length rest < w → None ≡ numbers_in count most ws s
       row_short h = row_stop more (rw (← width) (first_short most w rest h))
 
       module _ (column left : List ℕ) (parts : IsSplitAt rest w column left) where
         read : first_column most (get_or ws k 0) rest ≡ read_column most column
         read = rw (← width, parts.1) (first_part most w rest parts.0)
 
-        pub row_bad : None ≡ read_column most column → None ≡ row_in most ws s
+        pub row_bad : None ≡ read_column most column → None ≡ numbers_in count most ws s
         row_bad e = row_stop more (read ∙ sym e)
 
         pub row_next : (n : ℕ) → Some n ≡ read_column most column → SoFar (k + 1) (set numbers k n) left
@@ -162,10 +175,10 @@ module _ (most : ℕ) (ws s : List ℕ) where
     unfolding row_of
     row_end whole h e = rw (drop_of_length-le ws h, e)
 
-    pub row_whole : length ws ≤ k → same_text rest (10 ∷ []) ≡ true → Some numbers ≡ row_in most ws s
+    pub row_whole : length ws ≤ k → same_text rest (10 ∷ []) ≡ true → Some numbers ≡ numbers_in count most ws s
     row_whole h e =
         let all : take k numbers ≡ numbers = take_all k numbers (omega (arith, so_far.places)) in
         sym (rw all at (row_ended true (row_end true h e)))
 
-    pub row_other : length ws ≤ k → same_text rest (10 ∷ []) ≡ false → None ≡ row_in most ws s
+    pub row_other : length ws ≤ k → same_text rest (10 ∷ []) ≡ false → None ≡ numbers_in count most ws s
     row_other h e = sym (row_ended false (row_end false h e))

@@ -55,3 +55,7 @@ row_of most (w ∷ widths) s = with_column (first_column most w s) (row_of most 
 -- the numbers of a text that is such a row from its first byte to its last
 unfoldable pub row_in : ℕ → List ℕ → List ℕ → Option (List ℕ)
 row_in most widths s = cond (row_of most widths s).whole (Some (row_of most widths s).numbers) None
+
+-- those numbers where so many are asked for as there are columns, none where they are more or fewer
+unfoldable pub numbers_in : ℕ → ℕ → List ℕ → List ℕ → Option (List ℕ)
+numbers_in count most widths s = cond (eqb (length widths) count) (row_in most widths s) None

@@ -2,7 +2,7 @@
 #![tactic(auto)]
 
 ghost use Rattle.std.specs.Prelude.{◌≡◌, [], ◌∷◌};
-ghost use Rattle.reading.specs.Reading.{blanks, same_text, read_column, row_in};
+ghost use Rattle.reading.specs.Reading.{blanks, same_text, read_column, numbers_in};
 ghost use Rattle.reading.specs.Steps.{scan_digits};
 
 // How many blanks the text starts with.
@@ -53,11 +53,14 @@ fn is_line_feed(text: &[u8]) -> bool
     text.len() == 1 && text[0] == b'\n'
 }
 
-// The numbers of a text that is a row of columns of the given widths, then a line feed and no more; each is at most
-// `most`.
-pub fn read_row<const N: usize>(text: &[u8], widths: &[u8; N], most: u32) -> Option<[u32; N]>
-    ensures { result ≡ row_in most widths.now text.now }
+// The N numbers of a text that is a row of columns of the given widths, then a line feed and no more; each is at most
+// `most`. None where the columns are more or fewer than N.
+pub fn read_row<const N: usize>(text: &[u8], widths: &[u8], most: u32) -> Option<[u32; N]>
+    ensures { result ≡ numbers_in N most widths.now text.now }
 {
+    if widths.len() != N {
+        return None;
+    }
     let mut numbers = [0; N];
     let mut rest = text;
     for (place, width) in widths.iter().enumerate() {

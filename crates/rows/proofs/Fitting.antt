@@ -9,7 +9,7 @@ use lib.Dec.{ltb}
 use lib.ListN.{length}
 use Rattle.lists.specs.Search.{below}
 use Rattle.lists.proofs.Search.{length-keep}
-use Rattle.lists.proofs.Tests.{and_i}
+use Rattle.std.proofs.lemmas.Bool.{and_from}
 use Rattle.columns.proofs.Writing.{fits_below, total}
 use Rattle.cells.specs.declared.Cell.{Cell}
 use Rattle.cells.specs.declared.Cell.TheVariants.{Empty, Number, Minus}
@@ -80,14 +80,14 @@ pub authority_line_lem : (now : ℕ) (a : Authority) (number kind first last off
 unfolding cells_fit authority_cells
 authority_line_lem now a number kind first last officer stage site minutes agreed n o r b k f l w t s m g = (
   rw (b, k, f, l, w, t, s, m.0, g),
-  and_i _ _ (eight_in number (omega arith))
-      (and_i _ _ (seven_in kind (omega (arith, kind_in a.kind)))
-      (and_i _ _ (eight_in first (omega (arith, least_most a.limits)))
-      (and_i _ _ (eight_in last (omega (arith, greatest_most a.limits)))
-      (and_i _ _ (eight_in officer (omega arith))
-      (and_i _ _ (eight_in stage (omega (arith, pick_in (is_in_force a) 2 1 (omega arith) (omega arith))))
-      (and_i _ _ (eight_in site (omega (arith, pick_in (has_workers_on a) 1 2 (omega arith) (omega arith))))
-      (and_i _ _ m.1 (and_i _ _ (eight_in agreed (omega arith)) refl)))))))),
+  and_from _ _ (eight_in number (omega arith))
+      (and_from _ _ (seven_in kind (omega (arith, kind_in a.kind)))
+      (and_from _ _ (eight_in first (omega (arith, least_most a.limits)))
+      (and_from _ _ (eight_in last (omega (arith, greatest_most a.limits)))
+      (and_from _ _ (eight_in officer (omega arith))
+      (and_from _ _ (eight_in stage (omega (arith, pick_in (is_in_force a) 2 1 (omega arith) (omega arith))))
+      (and_from _ _ (eight_in site (omega (arith, pick_in (has_workers_on a) 1 2 (omega arith) (omega arith))))
+      (and_from _ _ m.1 (and_from _ _ (eight_in agreed (omega arith)) refl)))))))),
 )
 
 -- now, of a stamp of two numbers of 16 bits
@@ -116,6 +116,6 @@ pub total_line_lem : (b : Board) (held blocked : ℕ) → held ≡ size (held_po
 unfolding cells_fit total_cells
 total_line_lem b held blocked h g = (
   rw (h, g),
-  and_i _ _ (number_in 9 held (omega arith) (omega (arith, size_most (held_portions b.authorities))))
-      (and_i _ _ (number_in 9 blocked (omega arith) (omega (arith, size_most b.blocks))) (and_i _ _ (empty_fits 54) refl)),
+  and_from _ _ (number_in 9 held (omega arith) (omega (arith, size_most (held_portions b.authorities))))
+      (and_from _ _ (number_in 9 blocked (omega arith) (omega (arith, size_most b.blocks))) (and_from _ _ (empty_fits 54) refl)),
 )

@@ -8,7 +8,8 @@ use mathlib.Core.List.Memᴰ
 use lib.ListN.{length}
 use lib.Dec.{eqb}
 use borrow.Author.Tests.{leb-true, ltb-true}
-use Rattle.lists.proofs.Tests.{told, not_no}
+use Rattle.std.proofs.lemmas.Bool.{not-false}
+use Rattle.lists.proofs.Tests.{told}
 use Rattle.lists.proofs.Search.{each_at}
 use Rattle.rules.specs.declared.Seven.{Seven}
 use Rattle.rules.specs.declared.Call.{Call}
@@ -75,6 +76,6 @@ accepted b s room e =
     let numbered : not (is_call s.call) ≡ false = none (2 when not (is_call s.call)) (Memᴰ.tail (Memᴰ.head refl)) in
     let formed : not (in_ranges P G s) ≡ false = none (3 when not (in_ranges P G s)) (Memᴰ.tail (Memᴰ.tail (Memᴰ.head refl))) in
     record {
-      ranges = in_ranges_lem b s (not_no (is_call s.call) numbered) (not_no (in_ranges P G s) formed);
+      ranges = in_ranges_lem b s (not-false (is_call s.call) numbered) (not-false (in_ranges P G s) formed);
       ok = λ n. at_none n (own b s (named s)) (λ r m. none r (Memᴰ.tail (Memᴰ.tail (Memᴰ.tail (Memᴰ.tail m)))));
     }

@@ -7,7 +7,7 @@ use mathlib.Core.Bool.{Bool, true, false, ◌&&◌, and-false}
 use mathlib.Core.List.{List, [], ◌∷◌}
 use lib.Dec.{eqb}
 use borrow.Author.Tests.{eq-eqb, ne_eqb}
-use Rattle.lists.proofs.Tests.{or_no}
+use Rattle.std.proofs.lemmas.Bool.{or_from}
 use Rattle.lists.proofs.Search.{Member, any_yes}
 use Rattle.rules.specs.declared.AuthorityNo.{AuthorityNo}
 use Rattle.rules.specs.declared.Authority.{Authority}
@@ -49,11 +49,11 @@ module _ (b : Board) (o : Once b) (s : Seven) (room n : ℕ) (l : live b n ≡ t
       ap (λ (m : ℕ). done && ends m (named s)) number ∙ ap (λ (t : Bool). done && t) e ∙ and-false done in
       let not-agreed : (done && agrees (authority_no (authority b n)) (named s)) ≡ false =
       ap (λ (m : ℕ). done && agrees m (named s)) number ∙ ap (λ (t : Bool). done && t) g ∙ and-false done in
-      let (a, m, k) = authority_stays (made ∷ []) b o (authority b n) there.0 (or_no _ false not-ended refl) in
+      let (a, m, k) = authority_stays (made ∷ []) b o (authority b n) there.0 (or_from _ false not-ended refl) in
       let is : is_authority n a ≡ true = eq-eqb (authority_no a) n (k.number ∙ number) in
       let held : live (after b s room) n ≡ true = any_yes (is_authority n) (after b s room).authorities a m is in
       let same : authority (after b s room) n ≡ a = the_named (after b s room) (once_after b s room o) n a held m is in
-      (held, ap (λ (x : Authority). x.agreed.0) same ∙ ap (λ (x : AuthorityNo). x.0) (k.agreement (or_no _ false not-agreed refl)))
+      (held, ap (λ (x : Authority). x.agreed.0) same ∙ ap (λ (x : AuthorityNo). x.0) (k.agreement (or_from _ false not-agreed refl)))
 
   -- "HAND OVER, CLEAR, REOCCUPY [..] keep the recorded number": of the one that they name, and of any other
   pub hand_over_keeps : (m : AuthorityNo) (out into : ℕ) → named s ≡ Some (HandOver m out into) → KeepsNumber

@@ -13,7 +13,8 @@ use lib.ListN.{length, set, replicate, length-set, length-replicate}
 use lib.Seq.{get_or-set_same, get_or-set_other}
 use lib.Dec.{eqb}
 use borrow.Author.Tests.{eqb-true, ne_eqb}
-use Rattle.lists.proofs.Tests.{truth, clash, or_yes_r, not_no}
+use Rattle.std.proofs.lemmas.Bool.{or_right, not-false}
+use Rattle.lists.proofs.Tests.{truth, clash}
 use Rattle.portions.specs.Sets.{has, insert, remove}
 use Rattle.portions.proofs.Bits.{has_none}
 use Rattle.portions.proofs.Laws.{in_insert, in_remove}
@@ -88,7 +89,7 @@ module _ (b : Board) (g : ℕ) (x : Booking) where
             (λ e. plain) (λ h ne e. B.plain h (sym (out_other h ne) ∙ e));
         can =
             each (λ (h : ℕ). has h b.blocks ≡ true → (not (is_plain (gate_at b.gates h)) || is_out (with_bookings (set b.bookings g x) b) h) ≡ true) g
-            (λ e. or_yes_r (not (is_plain (gate_at b.gates g))) (is_out (with_bookings (set b.bookings g x) b) g) (here ∙ stays e))
+            (λ e. or_right (not (is_plain (gate_at b.gates g))) (is_out (with_bookings (set b.bookings g x) b) g) (here ∙ stays e))
             (λ h ne e. rw (out_other h ne) (B.can h e));
       }
 
@@ -117,7 +118,7 @@ some_paper n h = ap not (ne_eqb n 0 (λ e. omega arith))
 is_out_lem : (b : Board) (g paper : ℕ) → 1 ≤ paper → not_booked b g paper ≡ false → is_out b g ≡ true
 unfolding not_booked is_out
 is_out_lem b g paper h e =
-    let same : (booking_at b.bookings g).paper.0 ≡ paper = eqb-true (booking_at b.bookings g).paper.0 paper (not_no _ e) in
+    let same : (booking_at b.bookings g).paper.0 ≡ paper = eqb-true (booking_at b.bookings g).paper.0 paper (not-false _ e) in
     some_paper (booking_at b.bookings g).paper.0 (omega arith)
 
 booked_effect : (b : Board) → Booked b → (s : Seven) (c : Option Call) → Accepted b s c → Booked (effect b c)
@@ -126,7 +127,7 @@ booked_effect b B s None k = B
 booked_effect b B s (Some (Request kind first last officer)) k = booked_still b _ refl refl refl B
 booked_effect b B s (Some (Withdraw n officer)) k = booked_still b _ refl refl refl B
 booked_effect b B s (Some (Agree toa twa officer)) k = booked_still b _ refl refl refl B
-booked_effect b B s (Some (Block g)) k = booked_block b B g.0 (not_no _ (k.ok 10))
+booked_effect b B s (Some (Block g)) k = booked_block b B g.0 (not-false _ (k.ok 10))
 booked_effect b B s (Some (Unblock g)) k = booked_unblock b B g.0
 booked_effect b B s (Some (Grant n officer)) k = booked_still b _ refl refl refl B
 booked_effect b B s (Some (Clear n officer)) k = booked_still b _ refl refl refl B
@@ -139,7 +140,7 @@ booked_effect b B s (Some (Passed t)) k = booked_still b _ refl refl refl B
 booked_effect b B s (Some (Term n day time length)) k = booked_still b _ refl refl refl B
 booked_effect b B s (Some (Join twa toa officer distance)) k = booked_still b _ refl refl refl B
 booked_effect b B s (Some (BookOut g paper)) k =
-    booked_set b g.0 (booked_out paper) B k.ranges.0 (not_no _ (k.ok 10)) (λ e. some_paper paper.0 k.ranges.1)
+    booked_set b g.0 (booked_out paper) B k.ranges.0 (not-false _ (k.ok 10)) (λ e. some_paper paper.0 k.ranges.1)
 -- 25: a gate whose block is on is not restored
 booked_effect b B s (Some (BookIn g paper true new)) k =
     booked_set b g.0 no_booking B k.ranges.0 (B.plain g.0 (is_out_lem b g.0 paper.0 k.ranges.1 (k.ok 5))) (λ e. clash e (k.ok 25))

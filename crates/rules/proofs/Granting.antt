@@ -10,7 +10,8 @@ use lib.ListN.{length}
 use lib.Dec.{eqb, leb}
 use borrow.Author.Tests.{eqb-true, eqb-false, eq-eqb, ne_eqb, le-leb}
 use Rattle.lists.specs.Search.{below}
-use Rattle.lists.proofs.Tests.{truth, clash, told, shown, and_i, and_no_r, or_cases, or_yes_l, or_yes_r, not_no}
+use Rattle.std.proofs.lemmas.Bool.{and_from, or_cases, or_left, or_right, not-false}
+use Rattle.lists.proofs.Tests.{truth, clash, told, shown, and_no_r}
 use Rattle.lists.proofs.Search.{Member, any_no, below_has, change_each}
 use Rattle.lists.proofs.Distinct.{taken_change}
 use Rattle.portions.specs.Sets.{has, shares}
@@ -157,7 +158,7 @@ module _ (b : Board) (r : Reckoning.Reckoning) (F : Follows b r) (S : Safe b.gat
       l = is_live b r F n.0 (ok.ok 5)
 
       force : Forced r.authority n.0
-      force = (here b r F n.0 l).force ∙ not_no (is_in_force (authority b n.0)) (ok.ok 6)
+      force = (here b r F n.0 l).force ∙ not-false (is_in_force (authority b n.0)) (ok.ok 6)
 
       free : (r.authority n.0).kind ≡ Twa → occupied b (authority b n.0) ≡ false
       free k =
@@ -192,8 +193,8 @@ module _ (b : Board) (r : Reckoning.Reckoning) (F : Follows b r) (old : ℕ) (ne
   is_handed : (t : ℕ) → (r.train t).under ≡ old → In y (r.train t).head → (handed t).under ≡ new.0
   is_handed t e i =
       ap (λ (k : Bool). cond k new.0 (r.train t).under)
-      (and_i (eqb (r.train t).under old) (between y.first y.last (r.train t).head) (eq-eqb (r.train t).under old e)
-      (and_i (leb y.first (r.train t).head) (leb (r.train t).head y.last) (le-leb y.first (r.train t).head i.0) (le-leb (r.train t).head y.last i.1)))
+      (and_from (eqb (r.train t).under old) (between y.first y.last (r.train t).head) (eq-eqb (r.train t).under old e)
+      (and_from (leb y.first (r.train t).head) (leb (r.train t).head y.last) (le-leb y.first (r.train t).head i.0) (le-leb (r.train t).head y.last i.1)))
 
   -- 12: a train on the board isn't in the way
   beside : occupied_beside b old c ≡ false → (t : ℕ) → (r.train t).on_board ≡ true → (o : Train) × Placed (r.train t) o × (in_the_way old c o ≡ false)
@@ -219,8 +220,8 @@ module _ (b : Board) (r : Reckoning.Reckoning) (F : Follows b r) (old : ℕ) (ne
       let twa : is_twa c.kind ≡ true = ap is_twa (sym hc.kind ∙ k) in
       let d : (is_twa c.kind || not (eqb o.with.0 old) || not (has o.head c.limits)) ≡ true = search shown in
       let never : (has o.head c.limits || has o.rear c.limits) ≡ true → ⊥ = λ z. clash d (search (shown, none)) in (
-        (λ i. never (or_yes_l (has o.head c.limits) (has o.rear c.limits) (hc.from o.head (subst (In y) q.head i)))),
-        (λ i. never (or_yes_r (has o.head c.limits) (has o.rear c.limits) (hc.from o.rear (subst (In y) q.rear i)))),
+        (λ i. never (or_left (has o.head c.limits) (has o.rear c.limits) (hc.from o.head (subst (In y) q.head i)))),
+        (λ i. never (or_right (has o.head c.limits) (has o.rear c.limits) (hc.from o.rear (subst (In y) q.rear i)))),
       )
 
   -- a train that was with old, and one that was not

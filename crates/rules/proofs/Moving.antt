@@ -8,7 +8,8 @@ use mathlib.Core.Bool.{Bool, true, false, cond, not, ◌&&◌, false≢true}
 use borrow.Author.Tests.{eqb-true, eqb-false}
 use Rattle.lists.specs.Search.{any, first}
 use Rattle.lists.specs.Order.{insert_by}
-use Rattle.lists.proofs.Tests.{clash, told, shown, and_no_r, not_no}
+use Rattle.std.proofs.lemmas.Bool.{not-false}
+use Rattle.lists.proofs.Tests.{clash, told, shown, and_no_r}
 use Rattle.lists.proofs.Search.{Member, any_no, any_yes, first_found}
 use Rattle.lists.proofs.Distinct.{Taken, taken_change}
 use Rattle.lists.proofs.Order.{inserted_from, inserted_into}
@@ -238,7 +239,7 @@ module _ (b : Board) (r : Reckoning.Reckoning) (F : Follows b r) (S : Safe b.gat
         y = as_passed (r.train t.0)
 
         l : on_board b t.0 ≡ true
-        l = not_no (on_board b t.0) (ok.ok 17)
+        l = not-false (on_board b t.0) (ok.ok 17)
 
         q : Placed (r.train t.0) (train b t.0)
         q = train_here t.0 l

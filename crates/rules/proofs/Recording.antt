@@ -11,7 +11,8 @@ use mathlib.Core.List.Memᴰ
 use mathlib.Core.List.{[], ◌∷◌}
 use lib.Dec.{eqb}
 use borrow.Author.Tests.{eq-eqb, ne_eqb}
-use Rattle.lists.proofs.Tests.{truth, told, shown, not_no, or_yes_r}
+use Rattle.std.proofs.lemmas.Bool.{not-false, or_right}
+use Rattle.lists.proofs.Tests.{truth, told, shown}
 use Rattle.lists.proofs.Search.{Member, any_no, change_each}
 use Rattle.lists.proofs.Distinct.{Taken, taken_change}
 use Rattle.portions.specs.Sets.{has, run, insert, remove}
@@ -72,7 +73,7 @@ module _ (b : Board) (r : Reckoning.Reckoning) (F : Follows b r) where
 
   pub is_live : (n : ℕ) → not_live b n ≡ false → live b n ≡ true
   unfolding not_live
-  is_live n h = not_no (live b n) h
+  is_live n h = not-false (live b n) h
 
   pub held_there : (n : ℕ) → Forced r.authority n → (a : Authority) × Member a b.authorities × (authority_no a ≡ n) × Held r.requests (r.authority n) a
   held_there n f =
@@ -376,7 +377,7 @@ module _ (b : Board) (r : Reckoning.Reckoning) (F : Follows b r) (S : Safe b.gat
           blocked =
               put_all (λ (h : ℕ) (y : Bool). y ≡ true → (h < 64) × (has h (insert g.0 b.blocks) ≡ true)) g.0 true r.blocked
               (λ e. let l : g.0 < 64 = omega (arith, ok.ranges, F.gates) in (l, insert_below g.0 b.blocks g.0 l ∙ rw (eq-eqb g.0 g.0 refl)))
-              (λ h ne e. let k = F.blocked h e in (k.0, insert_below g.0 b.blocks h k.0 ∙ or_yes_r (eqb h g.0) (has h b.blocks) k.1));
+              (λ h ne e. let k = F.blocked h e in (k.0, insert_below g.0 b.blocks h k.0 ∙ or_right (eqb h g.0) (has h b.blocks) k.1));
           unallotted = F.unallotted;
         };
     safe =

@@ -9,7 +9,8 @@ use mathlib.Core.List.{List, [], ◌∷◌}
 use lib.Dec.{eqb}
 use borrow.Author.Tests.{eqb-true}
 use Rattle.lists.specs.Search.{any, change}
-use Rattle.lists.proofs.Tests.{clash, or_no_l, or_no_r, not_no, told}
+use Rattle.std.proofs.lemmas.Bool.{not-false}
+use Rattle.lists.proofs.Tests.{clash, or_no_l, or_no_r, told}
 use Rattle.lists.proofs.Search.{Member, keeps, changed, changes_to}
 use Rattle.lists.proofs.Distinct.{one_of_number}
 use Rattle.rules.specs.declared.AuthorityNo.{AuthorityNo}
@@ -177,7 +178,7 @@ module _ (b : Board) (o : Once b) (s : Seven) where
       (λ i. record {
         number = refl;
         force = λ f. f;
-        term = λ h. clash h (subst (λ (y : Authority). has_term y ≡ false) (the_named b o n.0 x (not_no (live b n.0) (k.ok 5)) m i) (k.ok 8));
+        term = λ h. clash h (subst (λ (y : Authority). has_term y ≡ false) (the_named b o n.0 x (not-false (live b n.0) (k.ok 5)) m i) (k.ok 8));
         rests = λ f. refl;
         agreement = λ f. refl;
       })
