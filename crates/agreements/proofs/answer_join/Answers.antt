@@ -1,28 +1,29 @@
 -- `agreements::answer_join` meets its contract. Assumes nothing.
-use Rattle.std.proofs.Common.{◌∙◌}
+use Rattle.std.proofs.lemmas.Result.{err_from_is_err_and}
 use Rattle.rules.specs.Board.{board_of}
-use Rattle.rules.specs.Refusals.{not_officer}
-use Rattle.authorities.proofs.Finding.{first_not_live, second_not_live, both_live}
-use Rattle.agreements.proofs.Asking.{given_back}
+use Rattle.rules.specs.Refusals.{lowest}
+use Rattle.agreements.proofs.Agreeing.{join_refused, join_agreed}
 use Rattle.agreements.proofs.answer_join.Goals as goal
 
-pub returns-in_err-x : goal.returns-in_err-x
-unfolding board_of
-returns-in_err-x c =
-    let b = board_of c.args.register.now in
-    let e = c.in_err-x.ensures in
-    given_back _ e.ok_part e.value c.from_residual.ensures.1 ∙ first_not_live b _ _ _ (cc) e.ok_part
+pub returns-in_err-answer_agreement : goal.returns-in_err-answer_agreement
+returns-in_err-answer_agreement c =
+    let p = err_from_is_err_and c.from_residual.result c.from_residual.ensures.1 in
+    rw (p.1, p.2) (join_refused (board_of c.args.register.now) _ _ _ _ _ c.in_err-answer_agreement.ensures)
 
-pub returns-in_err-y : goal.returns-in_err-y
-unfolding board_of
-returns-in_err-y c =
-    let b = board_of c.args.register.now in
-    let e = c.in_err-y.ensures in
-    given_back _ e.ok_part e.value c.from_residual-in_err-y.ensures.1
-    ∙ second_not_live b _ _ _ (cc) c.in_ok-x.ensures.ok_part (cc) e.ok_part
+pub returns-then-is_not_at_distance : goal.returns-then-is_not_at_distance
+unfolding lowest
+returns-then-is_not_at_distance c =
+    rw (
+      join_agreed (board_of c.args.register.now) _ _ _ c.args.distance c.in_ok-answer_agreement.ensures,
+      ← c.is_not_at_distance.ensures,
+      c.if-is_not_at_distance.true,
+    )
 
 pub returns : goal.returns
-unfolding not_officer board_of
+unfolding lowest
 returns c =
-    let b = board_of c.args.register.now in
-    both_live b _ _ _ (cc) c.in_ok-x.ensures.ok_part (cc) c.in_ok-y.ensures.ok_part (λ p q. rw (p, q) c.decide_join.ensures)
+    rw (
+      join_agreed (board_of c.args.register.now) _ _ _ c.args.distance c.in_ok-answer_agreement.ensures,
+      ← c.is_not_at_distance.ensures,
+      c.if-is_not_at_distance.false,
+    )

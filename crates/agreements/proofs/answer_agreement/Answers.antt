@@ -1,10 +1,10 @@
--- `agreements::answer_agree` meets its contract. Assumes nothing.
+-- `agreements::answer_agreement` meets its contract. Assumes nothing.
 use Rattle.std.proofs.Common.{◌∙◌}
 use Rattle.rules.specs.Board.{board_of}
 use Rattle.rules.specs.Refusals.{not_officer}
 use Rattle.authorities.proofs.Finding.{first_not_live, second_not_live, both_live}
 use Rattle.agreements.proofs.Asking.{given_back}
-use Rattle.agreements.proofs.answer_agree.Goals as goal
+use Rattle.agreements.proofs.answer_agreement.Goals as goal
 
 pub returns-in_err-x : goal.returns-in_err-x
 unfolding board_of
@@ -25,4 +25,4 @@ pub returns : goal.returns
 unfolding not_officer board_of
 returns c =
     let b = board_of c.args.register.now in
-    both_live b _ _ _ (cc) c.in_ok-x.ensures.ok_part (cc) c.in_ok-y.ensures.ok_part (λ p q. rw (p, q) c.decide_agree.ensures)
+    both_live b _ _ _ (cc) c.in_ok-x.ensures.ok_part (cc) c.in_ok-y.ensures.ok_part (λ p q. rw (p, q) c.decide_agreement.ensures)
