@@ -1,3 +1,2 @@
--- The law of a search whose refusal is given back, which the crates above cite, and those of this crate's refusals.
+-- The laws of this crate's refusals that its proofs cite.
 pub mod Agreeing
-pub mod Asking

@@ -45,6 +45,7 @@ fn decide_agreement(
 }
 
 // 5, 6, 7 and 8 of AGREE and JOIN: the officer of n, in force, agrees, and m, pending, records it.
+#[tactic(auto, using(authorities::proofs::AuthorityLaws::not_found, authorities::proofs::AuthorityLaws::found), unfolding(rules::specs::Board::board_of, rules::specs::Refusals::lowest, rules::specs::Refusals::not_officer))]
 fn answer_agreement(
     register: &Register,
     n: AuthorityNo,
@@ -80,6 +81,7 @@ fn is_not_at_distance(distance: u16) -> bool
     !(500..=1000).contains(&distance)
 }
 
+#[tactic(auto, using(crate::proofs::Agreeing::join_refused, crate::proofs::Agreeing::join_agreed), unfolding(rules::specs::Refusals::lowest))]
 pub fn answer_join(
     register: &Register,
     twa: AuthorityNo,

@@ -1,10 +1,16 @@
--- What the accepted calls that amend one authority do, as a change of the board. Assumes nothing.
-use Rattle.std.proofs.Common.{◌≡◌, refl, ℕ, true, false, Some}
+-- One authority amended, and what the accepted calls that amend one do, as a change of the board. Assumes nothing.
+use Rattle.std.proofs.Common.{◌≡◌, refl, ℕ, true, false, Some, List}
+use Rattle.rules.specs.declared.Authority.{Authority}
 use Rattle.rules.specs.declared.AuthorityNo.{AuthorityNo}
 use Rattle.rules.specs.declared.Call.TheVariants.{Agree, Clear, Reoccupy, Join}
-use Rattle.rules.specs.Board.{Board}
+use Rattle.rules.specs.Board.{Board, amended}
 use Rattle.rules.specs.Effects.{effect, with_agreed, with_site}
-use Rattle.changes.specs.Amending.{with_amended}
+use Rattle.changes.specs.Amending.{AmendedBy, with_amended}
+
+-- where the change gives what f does, for the check
+pub amended_by : {Gives : Authority → Authority → Type 0} {n : ℕ} {xs ys : List Authority} (f : Authority → Authority)
+    → AmendedBy Gives n xs ys → ((x y : Authority) → Gives x y → y ≡ f x) → ys ≡ amended n f xs
+amended_by f e gives = e.by f gives
 
 module _ (b : Board) where
   -- CLEAR and REOCCUPY set the site

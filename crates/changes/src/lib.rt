@@ -1,5 +1,5 @@
 // What the accepted calls do that change authorities, blocks or bookings and no train.
-#![tactic(auto)]
+#![tactic(auto, using(crate::proofs::Changing::amended_by), unfolding(rules::specs::Board::board_of, rules::specs::Effects::effect))]
 
 ghost use Rattle.std.specs.Prelude.{◌≡◌, ℕ, Some, set};
 ghost use Rattle.rules.specs.declared.Call.TheVariants as Call;
