@@ -2,7 +2,8 @@
 use Rattle.std.proofs.Common.{◌≡◌, refl, ap, ℕ, ◌<◌, Bool, true, false, List, [], ◌∷◌, ◌++◌, arith, lit<}
 use Rattle.rules.specs.declared.kind.Kind.TheVariants.{Toa, Twa}
 use Rattle.rules.specs.Board.{Board}
-use Rattle.rules.specs.Refusals.{Refusal, ◌when◌, lowest, not_to_agree, not_to_join, not_at_distance, agree_refusals, join_refusals}
+use Rattle.rules.specs.Refusals.{Refusal, ◌when◌, lowest, not_to_agree, not_to_join}
+use Rattle.rules.specs.Refusals.{not_at_distance, agree_refusals, join_refusals}
 use Rattle.rules.specs.declared.refusal.Refusal as Refused
 use Rattle.rules.specs.declared.refusal.Refusal.TheVariants as Word
 use Rattle.rules.specs.Answer.{refusal_no}

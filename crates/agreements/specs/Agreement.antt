@@ -15,7 +15,8 @@ is_kind Twa k = is_twa k
 
 -- 6: x is not in force and of its kind, or y is not pending and of its kind
 abbrev pub not_to_record : Kind → Kind → Authority → Authority → Bool
-not_to_record x_kind y_kind x y = not (is_kind x_kind x.kind && is_in_force x && is_kind y_kind y.kind && not (is_in_force y))
+not_to_record x_kind y_kind x y =
+    not (is_kind x_kind x.kind && is_in_force x && is_kind y_kind y.kind && not (is_in_force y))
 
 -- 5, 6, 7 and 8: for the agreement of the officer of n, to be recorded with m
 abbrev pub agreement_refusals : Board → Kind → ℕ → Kind → ℕ → ℕ → List Refusal

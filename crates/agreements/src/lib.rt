@@ -29,7 +29,9 @@ fn decide_agreement(
     officer: u16,
 ) -> Result<(), Refusal>
     ensures { answer_no result
-        ≡ lowest (6 when not_to_record x_kind y_kind x y ∷ 7 when not (eqb x.officer officer) ∷ 8 when eqb y.agreed.0 n.0
+        ≡ lowest (6 when not_to_record x_kind y_kind x y
+        ∷ 7 when not (eqb x.officer officer)
+        ∷ 8 when eqb y.agreed.0 n.0
         ∷ []) }
 {
     if !(is_kind(x, x_kind) && x.in_force && is_kind(y, y_kind) && !y.in_force) {

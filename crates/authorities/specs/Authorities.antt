@@ -11,6 +11,7 @@ holds_in_force is_kind p a = is_in_force a && is_kind a.kind && has p a.limits
 
 -- A search for the first authority in force of a kind that passes a test, whose limits hold the portion p. `Passes k b`
 -- says that the test of the kind k may answer b: where it answers as a function does, the search answers as `find`.
-pub record FindsInForce (Passes : Kind → Bool → Type 0) (p : ℕ) (xs : List Authority) (result : Option Authority) : Type 0 where
+pub record FindsInForce
+    (Passes : Kind → Bool → Type 0) (p : ℕ) (xs : List Authority) (result : Option Authority) : Type 0 where
   pub finds : (is_kind : Kind → Bool) → ((k : Kind) (b : Bool) → Passes k b → b ≡ is_kind k)
       → result ≡ find (holds_in_force is_kind p) xs

@@ -14,11 +14,13 @@ amended_by f e gives = e.by f gives
 
 module _ (b : Board) where
   -- CLEAR and REOCCUPY set the site
-  pub clears : (n : AuthorityNo) (officer : ℕ) → with_amended n.0 (with_site false) b ≡ effect b (Some (Clear n officer))
+  pub clears : (n : AuthorityNo) (officer : ℕ)
+      → with_amended n.0 (with_site false) b ≡ effect b (Some (Clear n officer))
   unfolding effect
   clears n officer = refl
 
-  pub reoccupies : (n : AuthorityNo) (officer : ℕ) → with_amended n.0 (with_site true) b ≡ effect b (Some (Reoccupy n officer))
+  pub reoccupies : (n : AuthorityNo) (officer : ℕ)
+      → with_amended n.0 (with_site true) b ≡ effect b (Some (Reoccupy n officer))
   unfolding effect
   reoccupies n officer = refl
 

@@ -13,5 +13,6 @@ returns g c = record {
       λ is_kind answers.
       sym (option_map_id _)
       ∙ find_from_yields_List (holds_in_force is_kind c.args.p) _ _ _ c.find.ensures.ran
-      (YieldsList-from_copied (YieldsList-from_slice c.args.authorities.now cc)) (λ x b q k. search (rules, tests, answers));
+      (YieldsList-from_copied (YieldsList-from_slice c.args.authorities.now cc))
+      (λ x b q k. search (rules, tests, answers));
 }

@@ -16,11 +16,13 @@ gate c = search rules
 
 -- what the tests ask of E and W
 is_12 : (c : After-is_another_at)
-    → taken (board_of c.args.register.now) c.args.t.0 c.gate_at-gate.result.to ≡ (c.is_none.result && c.is_another_at.result)
+    → taken (board_of c.args.register.now) c.args.t.0 c.gate_at-gate.result.to
+    ≡ (c.is_none.result && c.is_another_at.result)
 unfolding board_of
 is_12 c =
     let to = c.gate_at-gate.result.to in
-    is_taken (board_of c.args.register.now) to (looked (is_e to) (finds_e c.in_force_at-e.ensures (λ k b h. search rules)) c.deref-2.ensures.0)
+    is_taken (board_of c.args.register.now) to
+    (looked (is_e to) (finds_e c.in_force_at-e.ensures (λ k b h. search rules)) c.deref-2.ensures.0)
     c.args.t.0 _ c.is_none.ensures
     (c.is_another_at.ensures ∙ ap (any (is_other_at c.args.t.0 to)) c.deref-4.ensures.0)
 
@@ -29,7 +31,8 @@ is_14 : (c : After-has_workers_on)
 unfolding board_of
 is_14 c =
     let to = c.gate_at-gate.result.to in
-    is_worked_on (board_of c.args.register.now) to (looked (is_w to) (finds_w c.in_force_at-w.ensures (λ k b h. search rules)) c.deref-3.ensures.0)
+    is_worked_on (board_of c.args.register.now) to
+    (looked (is_w to) (finds_w c.in_force_at-w.ensures (λ k b h. search rules)) c.deref-3.ensures.0)
     c.has_workers_on.ensures
 
 is_18 : (c : After-is_none-3)
