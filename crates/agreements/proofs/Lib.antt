@@ -1,2 +1,2 @@
--- The laws of this crate's refusals that its proofs cite.
+-- The laws of an agreement's answer that the proofs of this crate cite.
 pub mod Agreeing

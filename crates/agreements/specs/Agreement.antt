@@ -1,11 +1,13 @@
 -- The refusals that AGREE and JOIN have in common: the officer of an authority in force agrees, and a pending authority
 -- records it. Assumes nothing.
-use Rattle.std.specs.Prelude.{ℕ, Bool, not, ◌&&◌, ◌||◌, List, [], ◌∷◌, eqb}
+use Rattle.std.specs.Prelude.{ℕ, Bool, cond, not, ◌&&◌, ◌||◌, eqb, Result, Ok, Err}
+use Rattle.rules.specs.declared.refusal.Refusal.{Refusal}
+use Rattle.rules.specs.declared.refusal.Refusal.TheVariants.{NotLive, Stage, Officer, AlreadySo}
 use Rattle.rules.specs.declared.kind.Kind.{Kind}
 use Rattle.rules.specs.declared.kind.Kind.TheVariants.{Lpa, Toa, Twa}
 use Rattle.rules.specs.declared.Authority.{Authority}
 use Rattle.rules.specs.Board.{Board, is_lpa, is_toa, is_twa, is_in_force, authority}
-use Rattle.rules.specs.Refusals.{Refusal, ◌when◌, not_live, not_officer}
+use Rattle.rules.specs.Refusals.{not_live}
 
 -- the second kind is the first
 abbrev pub is_kind : Kind → Kind → Bool
@@ -18,11 +20,15 @@ abbrev pub not_to_record : Kind → Kind → Authority → Authority → Bool
 not_to_record x_kind y_kind x y =
     not (is_kind x_kind x.kind && is_in_force x && is_kind y_kind y.kind && not (is_in_force y))
 
--- 5, 6, 7 and 8: for the agreement of the officer of n, to be recorded with m
-abbrev pub agreement_refusals : Board → Kind → ℕ → Kind → ℕ → ℕ → List Refusal
-agreement_refusals b n_kind n m_kind m officer =
-    5 when (not_live b n || not_live b m)
-    ∷ 6 when not_to_record n_kind m_kind (authority b n) (authority b m)
-    ∷ 7 when not_officer b n officer
-    ∷ 8 when eqb (authority b m).agreed.0 n
-    ∷ []
+-- 6, 7 and 8, with the two found: the agreement of the officer of x, whose number is n, recorded with y, or refused
+abbrev pub agreement_with : Kind → Authority → Kind → Authority → ℕ → ℕ → Result (Unit {0}) Refusal
+agreement_with x_kind x y_kind y n officer =
+    cond (not_to_record x_kind y_kind x y) (Err Stage)
+    (cond (not (eqb x.officer officer)) (Err Officer)
+    (cond (eqb y.agreed.0 n) (Err AlreadySo) (Ok tt)))
+
+-- 5 before these: the agreement of the officer of n, recorded with m, or the first refusal whose condition holds
+abbrev pub agreement_of : Board → Kind → ℕ → Kind → ℕ → ℕ → Result (Unit {0}) Refusal
+agreement_of b n_kind n m_kind m officer =
+    cond (not_live b n || not_live b m) (Err NotLive)
+    (agreement_with n_kind (authority b n) m_kind (authority b m) n officer)

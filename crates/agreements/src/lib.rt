@@ -2,11 +2,11 @@
 // officer with a pending TWA, and to JOIN (02, order 4), which records that of a TWA's officer with a pending TOA.
 #![tactic(auto)]
 
-ghost use Rattle.std.specs.Prelude.{◌≡◌, not, ◌∷◌, [], eqb};
+ghost use Rattle.std.specs.Prelude.{◌≡◌};
 ghost use Rattle.rules.specs.Board.{board_of};
-ghost use Rattle.rules.specs.Refusals.{◌when◌, lowest, agree_refusals, join_refusals, not_at_distance};
+ghost use Rattle.rules.specs.Refusals.{lowest, agree_refusals, join_refusals, not_at_distance};
 ghost use Rattle.rules.specs.Answer.{answer_no};
-ghost use Rattle.agreements.specs.Agreement.{agreement_refusals, is_kind, not_to_record};
+ghost use Rattle.agreements.specs.Agreement.{agreement_of, agreement_with, is_kind};
 
 use authorities::find;
 use rules::{Authority, AuthorityNo, Kind, Refusal, Register};
@@ -19,7 +19,6 @@ fn is_kind(a: Authority, kind: Kind) -> bool
 }
 
 // 6, 7 and 8 of AGREE and JOIN, with the two found: x, whose number is n, is in force and y is pending.
-#[tactic(auto, using(authorities::proofs::Finding::refusals))]
 fn decide_agreement(
     x: Authority,
     x_kind: Kind,
@@ -28,11 +27,7 @@ fn decide_agreement(
     n: AuthorityNo,
     officer: u16,
 ) -> Result<(), Refusal>
-    ensures { answer_no result
-        ≡ lowest (6 when not_to_record x_kind y_kind x y
-        ∷ 7 when not (eqb x.officer officer)
-        ∷ 8 when eqb y.agreed.0 n.0
-        ∷ []) }
+    ensures { result ≡ agreement_with x_kind x y_kind y n.0 officer }
 {
     if !(is_kind(x, x_kind) && x.in_force && is_kind(y, y_kind) && !y.in_force) {
         return Err(Refusal::Stage);
@@ -47,7 +42,7 @@ fn decide_agreement(
 }
 
 // 5, 6, 7 and 8 of AGREE and JOIN: the officer of n, in force, agrees, and m, pending, records it.
-#[tactic(auto, using(authorities::proofs::AuthorityLaws::not_found, authorities::proofs::AuthorityLaws::found), unfolding(rules::specs::Board::board_of, rules::specs::Refusals::lowest, rules::specs::Refusals::not_officer))]
+#[tactic(auto, using(authorities::proofs::AuthorityLaws::not_found, authorities::proofs::AuthorityLaws::found), unfolding(rules::specs::Board::board_of))]
 fn answer_agreement(
     register: &Register,
     n: AuthorityNo,
@@ -56,14 +51,13 @@ fn answer_agreement(
     m_kind: Kind,
     officer: u16,
 ) -> Result<(), Refusal>
-    ensures { answer_no result ≡ lowest (agreement_refusals (board_of register.now) n_kind n.0 m_kind m.0 officer) }
+    ensures { result ≡ agreement_of (board_of register.now) n_kind n.0 m_kind m.0 officer }
 {
     let x = find(&register.authorities, n).ok_or(Refusal::NotLive)?;
     let y = find(&register.authorities, m).ok_or(Refusal::NotLive)?;
     decide_agreement(x, n_kind, y, m_kind, n, officer)
 }
 
-#[tactic(auto, using(crate::proofs::Agreeing::agrees))]
 pub fn answer_agree(
     register: &Register,
     toa: AuthorityNo,
@@ -83,7 +77,7 @@ fn is_not_at_distance(distance: u16) -> bool
     !(500..=1000).contains(&distance)
 }
 
-#[tactic(auto, using(crate::proofs::Agreeing::join_refused, crate::proofs::Agreeing::join_agreed), unfolding(rules::specs::Refusals::lowest))]
+#[tactic(auto, unfolding(rules::specs::Refusals::lowest, rules::specs::Refusals::not_to_join, rules::specs::Refusals::not_officer))]
 pub fn answer_join(
     register: &Register,
     twa: AuthorityNo,
