@@ -122,6 +122,7 @@ fn answer_reoccupy(register: &Register, n: AuthorityNo, officer: u16) -> Result<
     Ok(())
 }
 
+// Kept: 5 and 7 of its own. HAND OVER takes either stage, and `held` asks for one.
 fn answer_hand_over(register: &Register, n: AuthorityNo, out: u16, into: u16) -> Result<(), Refusal>
     ensures { answer_no result ≡ lowest (hand_over_refusals (board_of register.now) n.0 out into) }
 {
