@@ -1,2 +1,2 @@
--- The law of a search whose refusal is given back, which the crates above cite.
-pub mod Asking
+-- The laws of an agreement's answer that the proofs of this crate cite.
+pub mod Agreeing

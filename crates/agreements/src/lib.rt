@@ -2,31 +2,60 @@
 // officer with a pending TWA, and to JOIN (02, order 4), which records that of a TWA's officer with a pending TOA.
 #![tactic(auto)]
 
-ghost use Rattle.std.specs.Prelude.{◌≡◌, not, ◌∷◌, [], eqb};
+ghost use Rattle.std.specs.Prelude.{◌≡◌};
 ghost use Rattle.rules.specs.Board.{board_of};
-ghost use Rattle.rules.specs.Refusals.{◌when◌, lowest, not_to_agree, not_to_join, not_at_distance};
-ghost use Rattle.rules.specs.Refusals.{agree_refusals, join_refusals};
+ghost use Rattle.rules.specs.Refusals.{lowest, agree_refusals, join_refusals, not_at_distance};
 ghost use Rattle.rules.specs.Answer.{answer_no};
+ghost use Rattle.agreements.specs.Agreement.{agreement_of, agreement_with, is_kind};
 
 use authorities::find;
 use rules::{Authority, AuthorityNo, Kind, Refusal, Register};
 
-// 6, 7 and 8 of AGREE, with the two found.
-#[tactic(auto, using(authorities::proofs::Finding::refusals), unfolding(rules::specs::Refusals::not_to_agree))]
-fn decide_agree(x: Authority, y: Authority, toa: AuthorityNo, officer: u16) -> Result<(), Refusal>
-    ensures { answer_no result
-        ≡ lowest (6 when not_to_agree x y ∷ 7 when not (eqb x.officer officer) ∷ 8 when eqb y.agreed.0 toa.0 ∷ []) }
+// The authority is of that kind.
+fn is_kind(a: Authority, kind: Kind) -> bool
+    ensures { result ≡ is_kind kind a.kind }
 {
-    if !(x.kind == Kind::Toa && x.in_force && y.kind == Kind::Twa && !y.in_force) {
+    a.kind == kind
+}
+
+// 6, 7 and 8 of AGREE and JOIN, with the two found: x, whose number is n, is in force and y is pending.
+fn decide_agreement(
+    x: Authority,
+    x_kind: Kind,
+    y: Authority,
+    y_kind: Kind,
+    n: AuthorityNo,
+    officer: u16,
+) -> Result<(), Refusal>
+    ensures { result ≡ agreement_with x_kind x y_kind y n.0 officer }
+{
+    if !(is_kind(x, x_kind) && x.in_force && is_kind(y, y_kind) && !y.in_force) {
         return Err(Refusal::Stage);
     }
     if x.officer != officer {
         return Err(Refusal::Officer);
     }
-    if y.agreed == toa {
+    if y.agreed == n {
         return Err(Refusal::AlreadySo);
     }
     Ok(())
+}
+
+// 5, 6, 7 and 8 of AGREE and JOIN: the officer of n, in force, agrees, and m, pending, records it.
+#[tactic(auto, using(authorities::proofs::AuthorityLaws::not_found, authorities::proofs::AuthorityLaws::found), unfolding(rules::specs::Board::board_of))]
+fn answer_agreement(
+    register: &Register,
+    n: AuthorityNo,
+    n_kind: Kind,
+    m: AuthorityNo,
+    m_kind: Kind,
+    officer: u16,
+) -> Result<(), Refusal>
+    ensures { result ≡ agreement_of (board_of register.now) n_kind n.0 m_kind m.0 officer }
+{
+    let x = find(&register.authorities, n).ok_or(Refusal::NotLive)?;
+    let y = find(&register.authorities, m).ok_or(Refusal::NotLive)?;
+    decide_agreement(x, n_kind, y, m_kind, n, officer)
 }
 
 pub fn answer_agree(
@@ -37,9 +66,7 @@ pub fn answer_agree(
 ) -> Result<(), Refusal>
     ensures { answer_no result ≡ lowest (agree_refusals (board_of register.now) toa.0 twa.0 officer) }
 {
-    let x = find(&register.authorities, toa).ok_or(Refusal::NotLive)?;
-    let y = find(&register.authorities, twa).ok_or(Refusal::NotLive)?;
-    decide_agree(x, y, toa, officer)
+    answer_agreement(register, toa, Kind::Toa, twa, Kind::Twa, officer)
 }
 
 // 24: the distance is under 500 or over 1000.
@@ -50,34 +77,7 @@ fn is_not_at_distance(distance: u16) -> bool
     !(500..=1000).contains(&distance)
 }
 
-// 6, 7, 8 and 24 of JOIN, with the two found.
-#[tactic(auto, using(authorities::proofs::Finding::refusals), unfolding(rules::specs::Refusals::not_to_join))]
-fn decide_join(
-    x: Authority,
-    y: Authority,
-    twa: AuthorityNo,
-    officer: u16,
-    distance: u16,
-) -> Result<(), Refusal>
-    ensures { answer_no result
-        ≡ lowest (6 when not_to_join x y ∷ 7 when not (eqb x.officer officer) ∷ 8 when eqb y.agreed.0 twa.0
-        ∷ 24 when not_at_distance distance ∷ []) }
-{
-    if !(x.kind == Kind::Twa && x.in_force && y.kind == Kind::Toa && !y.in_force) {
-        return Err(Refusal::Stage);
-    }
-    if x.officer != officer {
-        return Err(Refusal::Officer);
-    }
-    if y.agreed == twa {
-        return Err(Refusal::AlreadySo);
-    }
-    if is_not_at_distance(distance) {
-        return Err(Refusal::Distance);
-    }
-    Ok(())
-}
-
+#[tactic(auto, unfolding(rules::specs::Refusals::lowest, rules::specs::Refusals::not_to_join, rules::specs::Refusals::not_officer))]
 pub fn answer_join(
     register: &Register,
     twa: AuthorityNo,
@@ -87,7 +87,9 @@ pub fn answer_join(
 ) -> Result<(), Refusal>
     ensures { answer_no result ≡ lowest (join_refusals (board_of register.now) twa.0 toa.0 officer distance) }
 {
-    let x = find(&register.authorities, twa).ok_or(Refusal::NotLive)?;
-    let y = find(&register.authorities, toa).ok_or(Refusal::NotLive)?;
-    decide_join(x, y, twa, officer, distance)
+    answer_agreement(register, twa, Kind::Twa, toa, Kind::Toa, officer)?;
+    if is_not_at_distance(distance) {
+        return Err(Refusal::Distance);
+    }
+    Ok(())
 }

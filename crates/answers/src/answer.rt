@@ -8,6 +8,7 @@ ghost use Rattle.rules.specs.Refusals.{lowest, request_refusals, withdraw_refusa
 ghost use Rattle.rules.specs.Refusals.{grant_refusals, clear_refusals, reoccupy_refusals, hand_over_refusals};
 ghost use Rattle.rules.specs.Refusals.{fulfil_refusals, continue_refusals, own};
 ghost use Rattle.rules.specs.Answer.{answer_no};
+ghost use Rattle.answers.specs.Held.{held_by};
 
 use crate::terms::answer_term;
 use agreements::{answer_agree, answer_join};
@@ -19,6 +20,25 @@ use conditions::{
 };
 use movements::{answer_move, answer_passed};
 use rules::{Authority, AuthorityNo, Call, GateNo, Kind, Refusal, Register, Seven};
+
+// 5, 6 and 7: the live authority with that number, in force or pending as is asked, and the officer's own.
+fn held(
+    register: &Register,
+    n: AuthorityNo,
+    in_force: bool,
+    officer: u16,
+) -> Result<Authority, Refusal>
+    ensures { result ≡ held_by (board_of register.now) n.0 in_force officer }
+{
+    let a = find(&register.authorities, n).ok_or(Refusal::NotLive)?;
+    if a.in_force != in_force {
+        return Err(Refusal::Stage);
+    }
+    if a.officer != officer {
+        return Err(Refusal::Officer);
+    }
+    Ok(a)
+}
 
 fn answer_request(register: &Register) -> Result<(), Refusal>
     ensures { answer_no result ≡ lowest (request_refusals (board_of register.now)) }
@@ -32,13 +52,7 @@ fn answer_request(register: &Register) -> Result<(), Refusal>
 fn answer_withdraw(register: &Register, n: AuthorityNo, officer: u16) -> Result<(), Refusal>
     ensures { answer_no result ≡ lowest (withdraw_refusals (board_of register.now) n.0 officer) }
 {
-    let a = find(&register.authorities, n).ok_or(Refusal::NotLive)?;
-    if a.in_force {
-        return Err(Refusal::Stage);
-    }
-    if a.officer != officer {
-        return Err(Refusal::Officer);
-    }
+    held(register, n, false, officer)?;
     Ok(())
 }
 
@@ -69,13 +83,7 @@ fn answer_unblock(register: &Register, g: GateNo) -> Result<(), Refusal>
 fn answer_grant(register: &Register, s: Seven, n: AuthorityNo, officer: u16) -> Result<(), Refusal>
     ensures { answer_no result ≡ lowest (grant_refusals (board_of register.now) s n.0 officer) }
 {
-    let a = find(&register.authorities, n).ok_or(Refusal::NotLive)?;
-    if a.in_force {
-        return Err(Refusal::Stage);
-    }
-    if a.officer != officer {
-        return Err(Refusal::Officer);
-    }
+    let a = held(register, n, false, officer)?;
     if is_unprotected(register, a) {
         return Err(Refusal::Unprotected);
     }
@@ -94,13 +102,7 @@ fn answer_grant(register: &Register, s: Seven, n: AuthorityNo, officer: u16) -> 
 fn answer_clear(register: &Register, n: AuthorityNo, officer: u16) -> Result<(), Refusal>
     ensures { answer_no result ≡ lowest (clear_refusals (board_of register.now) n.0 officer) }
 {
-    let a = find(&register.authorities, n).ok_or(Refusal::NotLive)?;
-    if !a.in_force {
-        return Err(Refusal::Stage);
-    }
-    if a.officer != officer {
-        return Err(Refusal::Officer);
-    }
+    let a = held(register, n, true, officer)?;
     if !a.workers_on {
         return Err(Refusal::AlreadySo);
     }
@@ -110,13 +112,7 @@ fn answer_clear(register: &Register, n: AuthorityNo, officer: u16) -> Result<(),
 fn answer_reoccupy(register: &Register, n: AuthorityNo, officer: u16) -> Result<(), Refusal>
     ensures { answer_no result ≡ lowest (reoccupy_refusals (board_of register.now) n.0 officer) }
 {
-    let a = find(&register.authorities, n).ok_or(Refusal::NotLive)?;
-    if !a.in_force {
-        return Err(Refusal::Stage);
-    }
-    if a.officer != officer {
-        return Err(Refusal::Officer);
-    }
+    let a = held(register, n, true, officer)?;
     if a.workers_on {
         return Err(Refusal::AlreadySo);
     }
@@ -126,6 +122,7 @@ fn answer_reoccupy(register: &Register, n: AuthorityNo, officer: u16) -> Result<
     Ok(())
 }
 
+// Kept: 5 and 7 of its own. HAND OVER takes either stage, and `held` asks for one.
 fn answer_hand_over(register: &Register, n: AuthorityNo, out: u16, into: u16) -> Result<(), Refusal>
     ensures { answer_no result ≡ lowest (hand_over_refusals (board_of register.now) n.0 out into) }
 {
@@ -147,13 +144,7 @@ fn answer_fulfil(
 ) -> Result<(), Refusal>
     ensures { answer_no result ≡ lowest (fulfil_refusals (board_of register.now) n.0 officer assurances) }
 {
-    let a = find(&register.authorities, n).ok_or(Refusal::NotLive)?;
-    if !a.in_force {
-        return Err(Refusal::Stage);
-    }
-    if a.officer != officer {
-        return Err(Refusal::Officer);
-    }
+    let a = held(register, n, true, officer)?;
     if a.workers_on {
         return Err(Refusal::Site);
     }

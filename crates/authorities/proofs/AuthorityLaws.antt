@@ -1,13 +1,16 @@
 -- What the answer of a search over the authorities says, in the rules' words. Assumes nothing.
 use Prim.Native.Nat.{ℕ}
 use mathlib.Core.Path.{◌≡◌, sym, ap, ◌∙◌}
-use mathlib.Core.Bool.{true, false}
+use mathlib.Core.Bool.{Bool, true, false}
+use mathlib.Core.List.{List}
 use Rattle.std.specs.Prelude.{Option, Some, None, find, is_some}
 use Rattle.lists.specs.Search.{first}
 use Rattle.lists.proofs.Finds.{found_any, found_none, found_is}
+use Rattle.rules.specs.declared.kind.Kind.{Kind}
 use Rattle.rules.specs.declared.Authority.{Authority}
-use Rattle.rules.specs.Board.{Board, is_authority, no_authority, live, authority}
+use Rattle.rules.specs.Board.{Board, exclusive, is_twa, is_authority, no_authority, live, authority}
 use Rattle.rules.specs.Refusals.{not_live, is_e, is_w, any_e, any_w, the_w}
+use Rattle.authorities.specs.Authorities.{FindsInForce}
 
 -- ---- the authority with a number, looked for
 
@@ -19,6 +22,19 @@ module _ (b : Board) (n : ℕ) {f : Option Authority} (looked : f ≡ find (is_a
   pub found : {a : Authority} → f ≡ Some a → (not_live b n ≡ false) × (authority b n ≡ a)
   unfolding not_live live authority
   found is = let h = found_is (is_authority n) no_authority b.authorities (sym looked ∙ is) in (rw h.0, h.1)
+
+-- ---- the authority in force at a portion, looked for: E where the exclusive kinds pass, W where TWA alone does
+
+module _
+    {Passes : Kind → Bool → Type 0} {p : ℕ} {xs : List Authority} {r : Option Authority}
+    (searched : FindsInForce Passes p xs r) where
+  pub finds_e : ((k : Kind) (b : Bool) → Passes k b → b ≡ exclusive k) → r ≡ find (is_e p) xs
+  unfolding is_e
+  finds_e passes = searched.finds exclusive passes
+
+  pub finds_w : ((k : Kind) (b : Bool) → Passes k b → b ≡ is_twa k) → r ≡ find (is_w p) xs
+  unfolding is_w
+  finds_w passes = searched.finds is_twa passes
 
 -- ---- E, looked for
 

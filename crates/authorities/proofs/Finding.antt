@@ -2,10 +2,11 @@
 -- says of `live` and `authority`. Assumes nothing.
 use Prim.Native.Nat.{ℕ}
 use mathlib.Core.Path.{◌≡◌, refl, sym, ◌∙◌}
-use mathlib.Core.Bool.{Bool, true, false, not, ◌||◌}
+use mathlib.Core.Bool.{Bool, true, false, ◌||◌}
 use mathlib.Core.List.{List, [], ◌∷◌}
 use borrow.Author.Tests.{eq-eqb, ne_eqb}
 use Rattle.std.specs.Prelude.{Option, Some, None, find}
+use Rattle.std.proofs.lemmas.Bool.{not_from_false, not_from_true}
 use Rattle.rules.specs.declared.Authority.{Authority}
 use Rattle.rules.specs.Board.{Board, is_authority, authority}
 use Rattle.rules.specs.Refusals.{Refusal, ◌when◌, lowest, not_live}
@@ -25,18 +26,12 @@ pub none : 0 ≡ lowest []
 unfolding lowest
 none = refl
 
-pub not_of_false : (t : Bool) → t ≡ false → not t ≡ true
-not_of_false t e = rw e
-
-pub not_of_true : (t : Bool) → t ≡ true → not t ≡ false
-not_of_true t e = rw e
-
 -- a test that a called function made
 pub of_call : {s t v : Bool} → s ≡ t → s ≡ v → t ≡ v
 of_call e f = sym e ∙ f
 
 -- for `search`: an answer that is the lowest refusal of a list, or 0, from the flags on the way
-pub ruleset refusals = (holds, fails, none, not_of_false, not_of_true, of_call, eq-eqb, ne_eqb)
+pub ruleset refusals = (holds, fails, none, not_from_false, not_from_true, of_call, eq-eqb, ne_eqb)
 
 -- ---- the authority with a number, looked for
 

@@ -4,7 +4,8 @@
 ghost use Rattle.std.specs.Prelude.{◌≡◌, find};
 ghost use Rattle.lists.specs.Search.{any};
 ghost use Rattle.rules.specs.Board.{is_authority};
-ghost use Rattle.rules.specs.Refusals.{clashes, in_force_needs, is_e, is_w};
+ghost use Rattle.rules.specs.Refusals.{clashes, in_force_needs};
+ghost use Rattle.authorities.specs.Authorities.{FindsInForce};
 
 use rules::{Authority, AuthorityNo, Gate, Kind};
 
@@ -15,18 +16,19 @@ pub fn find(authorities: &[Authority], n: AuthorityNo) -> Option<Authority>
     authorities.iter().copied().find(|a| a.number == n)
 }
 
-// E: the exclusive authority in force whose limits hold the portion.
-pub fn exclusive_at(authorities: &[Authority], p: u16) -> Option<Authority>
-    ensures { result ≡ find (is_e p) authorities.now }
+// The authority in force of a kind that passes the test, whose limits hold the portion: E, where LPA and TOA pass, and
+// W, where TWA alone does.
+pub fn in_force_at<F: Fn(Kind) -> bool>(
+    authorities: &[Authority],
+    p: u16,
+    is_kind: F,
+) -> Option<Authority>
+    requires { F.IsAlwaysCallable is_kind }
+    ensures { FindsInForce (F.post is_kind) p authorities.now result }
 {
-    authorities.iter().copied().find(|a| is_exclusive_at(*a, p))
-}
-
-// W: the TWA in force whose limits hold the portion.
-pub fn twa_at(authorities: &[Authority], p: u16) -> Option<Authority>
-    ensures { result ≡ find (is_w p) authorities.now }
-{
-    authorities.iter().copied().find(|a| is_twa_at(*a, p))
+    authorities.iter().copied().find(|a| {
+        a.in_force && is_kind(a.kind) && portions::has(a.limits, p)
+    })
 }
 
 // Refusal 13 for a: another in force shares a portion, old not counted.
@@ -44,20 +46,6 @@ pub fn is_still_needed(authorities: &[Authority], gate: Gate) -> bool
     authorities
         .iter()
         .any(|a| a.in_force && gates::is_needed(a.limits, gate))
-}
-
-#[tactic(auto, unfolding(rules::specs::Refusals::is_e))]
-fn is_exclusive_at(a: Authority, p: u16) -> bool
-    ensures { result ≡ is_e p a }
-{
-    a.in_force && a.kind != Kind::Twa && portions::has(a.limits, p)
-}
-
-#[tactic(auto, unfolding(rules::specs::Refusals::is_w))]
-fn is_twa_at(a: Authority, p: u16) -> bool
-    ensures { result ≡ is_w p a }
-{
-    a.in_force && a.kind == Kind::Twa && portions::has(a.limits, p)
 }
 
 // x is in force, another than a and old, and shares a portion with a, and a rests on no agreement of x's officer:

@@ -1,2 +1,2 @@
--- The laws that the proofs of the functions of this crate and of `effects` cite.
+-- The laws that the proof of `effects` cites.
 pub mod Changing

@@ -1,10 +1,11 @@
 // What the accepted calls do that change authorities, blocks or bookings and no train.
-#![tactic(auto)]
+#![tactic(auto, using(crate::proofs::Changing::amended_by), unfolding(rules::specs::Board::board_of, rules::specs::Effects::effect))]
 
 ghost use Rattle.std.specs.Prelude.{◌≡◌, ℕ, Some, set};
 ghost use Rattle.rules.specs.declared.Call.TheVariants as Call;
 ghost use Rattle.rules.specs.Board.{board_of, amended, ended};
-ghost use Rattle.rules.specs.Effects.{booked_in, effect, granted};
+ghost use Rattle.rules.specs.Effects.{booked_in, effect, granted, with_agreed, with_site};
+ghost use Rattle.changes.specs.Amending.{AmendedBy, with_amended};
 ghost use Rattle.changes.specs.Room.{HasPlace};
 
 use arrayvec::ArrayVec;
@@ -19,13 +20,25 @@ pub fn end_authority(authorities: &mut ArrayVec<Authority, 32>, n: AuthorityNo)
     authorities.retain(|a| a.number != n);
 }
 
+// Changes the authority with that number by f, in its place; the others stay.
+fn amend<F: Fn(Authority) -> Authority>(
+    authorities: &mut ArrayVec<Authority, 32>,
+    n: AuthorityNo,
+    f: F,
+)
+    requires { F.IsAlwaysCallable f }
+    ensures { AmendedBy (F.post f) n.0 authorities.old.items authorities.new.items }
+{
+    change(authorities, |a| a.number == n, f);
+}
+
 // Puts the authority with that number in force, with workers on.
 pub fn put_in_force(authorities: &mut ArrayVec<Authority, 32>, n: AuthorityNo)
     ensures { authorities.new.items ≡ amended n.0 granted authorities.old.items }
 {
-    change(
+    amend(
         authorities,
-        |a| a.number == n,
+        n,
         |a| Authority {
             in_force: true,
             workers_on: true,
@@ -58,14 +71,14 @@ pub fn withdraw(register: &mut Register, n: AuthorityNo)
     end_authority(&mut register.authorities, n);
 }
 
-pub fn agree(register: &mut Register, toa: AuthorityNo, twa: AuthorityNo)
-    ensures { (officer : ℕ) → board_of register.new
-        ≡ effect (board_of register.old) (Some (Call.Agree toa twa officer)) }
+// AGREE, of the TWA, and JOIN, of the TOA: records the other authority with the one that has the number.
+pub fn set_agreed(register: &mut Register, n: AuthorityNo, other: AuthorityNo)
+    ensures { board_of register.new ≡ with_amended n.0 (with_agreed other) (board_of register.old) }
 {
-    change(
+    amend(
         &mut register.authorities,
-        |a| a.number == twa,
-        |a| Authority { agreed: toa, ..a },
+        n,
+        |a| Authority { agreed: other, ..a },
     );
 }
 
@@ -87,27 +100,15 @@ pub fn grant(register: &mut Register, n: AuthorityNo)
     put_in_force(&mut register.authorities, n);
 }
 
-pub fn clear(register: &mut Register, n: AuthorityNo)
-    ensures { (officer : ℕ) → board_of register.new ≡ effect (board_of register.old) (Some (Call.Clear n officer)) }
+// CLEAR and REOCCUPY: sets the site of the authority with that number, workers on or clear.
+pub fn set_site(register: &mut Register, n: AuthorityNo, on: bool)
+    ensures { board_of register.new ≡ with_amended n.0 (with_site on) (board_of register.old) }
 {
-    change(
+    amend(
         &mut register.authorities,
-        |a| a.number == n,
+        n,
         |a| Authority {
-            workers_on: false,
-            ..a
-        },
-    );
-}
-
-pub fn reoccupy(register: &mut Register, n: AuthorityNo)
-    ensures { (officer : ℕ) → board_of register.new ≡ effect (board_of register.old) (Some (Call.Reoccupy n officer)) }
-{
-    change(
-        &mut register.authorities,
-        |a| a.number == n,
-        |a| Authority {
-            workers_on: true,
+            workers_on: on,
             ..a
         },
     );
@@ -116,9 +117,9 @@ pub fn reoccupy(register: &mut Register, n: AuthorityNo)
 pub fn hand_over(register: &mut Register, n: AuthorityNo, into: u16)
     ensures { (out : ℕ) → board_of register.new ≡ effect (board_of register.old) (Some (Call.HandOver n out into)) }
 {
-    change(
+    amend(
         &mut register.authorities,
-        |a| a.number == n,
+        n,
         |a| Authority { officer: into, ..a },
     );
 }
@@ -127,21 +128,10 @@ pub fn term(register: &mut Register, n: AuthorityNo, day: u16, time: u16, length
     ensures { board_of register.new ≡ effect (board_of register.old) (Some (Call.Term n day time length)) }
 {
     let start = minute_of(day, time);
-    change(
+    amend(
         &mut register.authorities,
-        |a| a.number == n,
+        n,
         |a| Authority { start, length, ..a },
-    );
-}
-
-pub fn join(register: &mut Register, twa: AuthorityNo, toa: AuthorityNo)
-    ensures { (officer distance : ℕ) → board_of register.new
-        ≡ effect (board_of register.old) (Some (Call.Join twa toa officer distance)) }
-{
-    change(
-        &mut register.authorities,
-        |a| a.number == toa,
-        |a| Authority { agreed: twa, ..a },
     );
 }
 
@@ -157,14 +147,11 @@ fn put_booking(bookings: &mut ArrayVec<Booking, 64>, g: GateNo, booking: Booking
 pub fn book_out(register: &mut Register, g: GateNo, paper: PaperNo)
     ensures { board_of register.new ≡ effect (board_of register.old) (Some (Call.BookOut g paper)) }
 {
-    put_booking(
-        &mut register.bookings,
-        g,
-        Booking {
-            paper,
-            replaced: PaperNo(0),
-        },
-    );
+    let booking = Booking {
+        paper,
+        replaced: PaperNo(0),
+    };
+    put_booking(&mut register.bookings, g, booking);
 }
 
 // The booking that BOOK IN leaves: none where the gate is certified, else the new paper with the call's beside it.

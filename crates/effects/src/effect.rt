@@ -6,12 +6,13 @@ ghost use Rattle.effects.specs.Room.{RoomFor};
 
 use crate::running::{continue_as, fulfil, move_train, passed};
 use changes::{
-    agree, block, book_in, book_out, clear, grant, hand_over, join, reoccupy, request, term,
-    unblock, withdraw,
+    block, book_in, book_out, grant, hand_over, request, set_agreed, set_site, term, unblock,
+    withdraw,
 };
 use rules::{Call, Register};
 
 // Does what the accepted call does, but for its stamp.
+#[tactic(auto, using(changes::proofs::Changing::clears, changes::proofs::Changing::reoccupies, changes::proofs::Changing::agrees, changes::proofs::Changing::joins))]
 pub fn effect_of(register: &mut Register, c: Call)
     requires { RoomFor (board_of register.old) c }
     ensures { board_of register.new ≡ effect (board_of register.old) (Some c) }
@@ -24,12 +25,12 @@ pub fn effect_of(register: &mut Register, c: Call)
             officer,
         } => request(register, kind, first, last, officer),
         Call::Withdraw { authority, .. } => withdraw(register, authority),
-        Call::Agree { toa, twa, .. } => agree(register, toa, twa),
+        Call::Agree { toa, twa, .. } => set_agreed(register, twa, toa),
         Call::Block { gate } => block(register, gate),
         Call::Unblock { gate } => unblock(register, gate),
         Call::Grant { authority, .. } => grant(register, authority),
-        Call::Clear { authority, .. } => clear(register, authority),
-        Call::Reoccupy { authority, .. } => reoccupy(register, authority),
+        Call::Clear { authority, .. } => set_site(register, authority, false),
+        Call::Reoccupy { authority, .. } => set_site(register, authority, true),
         Call::HandOver {
             authority,
             into,
@@ -50,7 +51,7 @@ pub fn effect_of(register: &mut Register, c: Call)
             time,
             length,
         } => term(register, authority, day, time, length),
-        Call::Join { twa, toa, .. } => join(register, twa, toa),
+        Call::Join { twa, toa, .. } => set_agreed(register, toa, twa),
         Call::BookOut { gate, paper } => book_out(register, gate, paper),
         Call::BookIn {
             gate,

@@ -2,7 +2,7 @@
 -- nothing.
 use Prim.Native.Nat.{ℕ}
 use mathlib.Core.Path.{◌≡◌, refl, sym, ap, ◌∙◌}
-use mathlib.Core.Bool.{Bool, true, false, not, ◌&&◌, ◌||◌}
+use mathlib.Core.Bool.{Bool, true, false, not, not-not, ◌&&◌, ◌||◌}
 use mathlib.Core.List.{List}
 use Rattle.std.specs.Prelude.{Option, Some, None, find, is_some, eqb}
 use Rattle.std.specs.Option.{option_or, unwrap_or}
@@ -12,10 +12,6 @@ use Rattle.rules.specs.declared.Authority.{Authority}
 use Rattle.rules.specs.Board.{Board, no_authority, authority_no}
 use Rattle.rules.specs.Refusals.{is_e, is_w, any_e, any_w, is_other_at, taken, worked_on, barred, pilot, not_piloted}
 use Rattle.authorities.proofs.AuthorityLaws.{is_some-e, is_some-w, no_e, no_w, is_the_e, is_the_w}
-
-not_not : (t : Bool) → not (not t) ≡ t
-not_not true = refl
-not_not false = refl
 
 not_both : (s t : Bool) → not (s && t) ≡ (not s || not t)
 not_both true t = refl
@@ -29,7 +25,7 @@ looked test is same = is ∙ ap (find test) same
 module _ (b : Board) (p : ℕ) {e : Option Authority} (at_e : e ≡ find (is_e p) b.authorities) where
   -- no E, by the test that the code makes
   none_e : (r : Bool) → is_some e ≡ not r → not (any_e b p) ≡ r
-  none_e r none = ap not (sym (is_some-e b p at_e) ∙ none) ∙ not_not r
+  none_e r none = ap not (sym (is_some-e b p at_e) ∙ none) ∙ not-not r
 
   -- 12: no E, and another train touches "to"
   pub is_taken : (t : ℕ) (r : Bool) {met : Bool} → is_some e ≡ not r → met ≡ any (is_other_at t p) b.trains
@@ -39,7 +35,7 @@ module _ (b : Board) (p : ℕ) {e : Option Authority} (at_e : e ≡ find (is_e p
 
 module _ (b : Board) (p : ℕ) {w : Option Authority} (at_w : w ≡ find (is_w p) b.authorities) where
   none_w : (r : Bool) → is_some w ≡ not r → not (any_w b p) ≡ r
-  none_w r none = ap not (sym (is_some-w b p at_w) ∙ none) ∙ not_not r
+  none_w r none = ap not (sym (is_some-w b p at_w) ∙ none) ∙ not-not r
 
   worked_by : (o : Option Authority) → w ≡ o → worked_on b p ≡ (unwrap_or o no_authority).workers_on
   unfolding worked_on

@@ -7,7 +7,8 @@ ghost use Rattle.rules.specs.Board.{board_of, gate_at, no_authority};
 ghost use Rattle.rules.specs.Refusals.{lowest, no_room, not_there, move_refusals, passed_refusals};
 ghost use Rattle.rules.specs.Answer.{answer_no};
 
-use rules::{Authority, AuthorityNo, Gate, GateNo, Refusal, Register, TrainNo};
+use authorities::in_force_at;
+use rules::{Authority, AuthorityNo, Gate, GateNo, Kind, Refusal, Register, TrainNo};
 
 // 9: from outside, 32 trains on the board.
 #[tactic(auto, unfolding(rules::specs::Board::board_of, rules::specs::Refusals::no_room))]
@@ -59,8 +60,8 @@ pub fn answer_move(
         move_refusals (board_of register.now) t.0 g.0 (gate_at (board_of register.now).gates g.0) n.0 officer) }
 {
     let gate = gates::gate_at(&register.gates, g);
-    let e = authorities::exclusive_at(&register.authorities, gate.to);
-    let w = authorities::twa_at(&register.authorities, gate.to);
+    let e = in_force_at(&register.authorities, gate.to, |kind| kind != Kind::Twa);
+    let w = in_force_at(&register.authorities, gate.to, |kind| kind == Kind::Twa);
     if has_no_room(register, gate) {
         return Err(Refusal::Full);
     }

@@ -4,6 +4,7 @@ use Rattle.std.proofs.Common.{rules, ◌≡◌, ap, ◌∙◌, ◌&&◌, ◌||�
 use Rattle.lists.specs.Search.{any}
 use Rattle.rules.specs.Board.{board_of, gate_at}
 use Rattle.rules.specs.Refusals.{lowest, taken, worked_on, barred, not_piloted, is_e, is_w, is_other_at}
+use Rattle.authorities.proofs.AuthorityLaws.{finds_e, finds_w}
 use Rattle.movements.proofs.Flags.{looked, is_taken, is_worked_on, is_barred, is_not_piloted}
 use Rattle.movements.proofs.answer_move.Goals as goal
 use Rattle.movements.proofs.answer_move.Goals.{After-gate_at-gate, After-is_another_at, After-has_workers_on}
@@ -15,11 +16,13 @@ gate c = search rules
 
 -- what the tests ask of E and W
 is_12 : (c : After-is_another_at)
-    → taken (board_of c.args.register.now) c.args.t.0 c.gate_at-gate.result.to ≡ (c.is_none.result && c.is_another_at.result)
+    → taken (board_of c.args.register.now) c.args.t.0 c.gate_at-gate.result.to
+    ≡ (c.is_none.result && c.is_another_at.result)
 unfolding board_of
 is_12 c =
     let to = c.gate_at-gate.result.to in
-    is_taken (board_of c.args.register.now) to (looked (is_e to) c.exclusive_at-e.ensures c.deref-2.ensures.0)
+    is_taken (board_of c.args.register.now) to
+    (looked (is_e to) (finds_e c.in_force_at-e.ensures (λ k b h. search rules)) c.deref-2.ensures.0)
     c.args.t.0 _ c.is_none.ensures
     (c.is_another_at.ensures ∙ ap (any (is_other_at c.args.t.0 to)) c.deref-4.ensures.0)
 
@@ -28,7 +31,8 @@ is_14 : (c : After-has_workers_on)
 unfolding board_of
 is_14 c =
     let to = c.gate_at-gate.result.to in
-    is_worked_on (board_of c.args.register.now) to (looked (is_w to) c.twa_at-w.ensures c.deref-3.ensures.0)
+    is_worked_on (board_of c.args.register.now) to
+    (looked (is_w to) (finds_w c.in_force_at-w.ensures (λ k b h. search rules)) c.deref-3.ensures.0)
     c.has_workers_on.ensures
 
 is_18 : (c : After-is_none-3)
@@ -38,8 +42,8 @@ unfolding board_of
 is_18 c =
     let to = c.gate_at-gate.result.to in
     is_barred (board_of c.args.register.now) to
-    (looked (is_e to) c.exclusive_at-e.ensures c.deref-2.ensures.0)
-    (looked (is_w to) c.twa_at-w.ensures c.deref-3.ensures.0)
+    (looked (is_e to) (finds_e c.in_force_at-e.ensures (λ k b h. search rules)) c.deref-2.ensures.0)
+    (looked (is_w to) (finds_w c.in_force_at-w.ensures (λ k b h. search rules)) c.deref-3.ensures.0)
     c.args.g.0 _ _ c.has.ensures c.is_none-2.ensures c.is_none-3.ensures
 
 is_19 : (c : After-ne)
@@ -49,8 +53,8 @@ unfolding board_of
 is_19 c =
     let to = c.gate_at-gate.result.to in
     is_not_piloted (board_of c.args.register.now) to
-    (looked (is_e to) c.exclusive_at-e.ensures c.deref-2.ensures.0)
-    (looked (is_w to) c.twa_at-w.ensures c.deref-3.ensures.0)
+    (looked (is_e to) (finds_e c.in_force_at-e.ensures (λ k b h. search rules)) c.deref-2.ensures.0)
+    (looked (is_w to) (finds_w c.in_force_at-w.ensures (λ k b h. search rules)) c.deref-3.ensures.0)
     c.args.n.0 c.args.officer c.pilot_of-pilot.ensures c.ne.ensures
 
 pub returns-then-has_no_room : goal.returns-then-has_no_room

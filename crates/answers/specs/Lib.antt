@@ -1,0 +1,2 @@
+-- The definition that the contract of the test of an authority cites, beside those of rules.
+pub mod Held

@@ -1,8 +1,0 @@
--- `changes::unblock` meets its contract. Assumes nothing.
-use Rattle.rules.specs.Board.{board_of}
-use Rattle.rules.specs.Effects.{effect}
-use Rattle.changes.proofs.unblock.Goals as goal
-
-pub returns : goal.returns
-unfolding board_of effect
-returns c = rw c.without-register.ensures
