@@ -1,12 +1,11 @@
 // The calls of a working folder: the board opened from the file `plan`, and the calls of the file `calls` made on it in
 // pieces of whole lines.
-ghost use Rattle.std.specs.Prelude.{◌≡◌, length, IfOk, IfSome};
-ghost use Rattle.rules.specs.Step.{Kept};
+ghost use Rattle.std.specs.Prelude.{◌≡◌, length};
 
 use crate::failure::{Failure, say_failure};
 use crate::input::{fill, open, read_file};
+use crate::open_board::Board;
 use crate::output::{print, print_number};
-use rules::Register;
 use std::io::Read;
 use std::rt::Files;
 
@@ -32,30 +31,29 @@ const MOST_PIECES: u64 = 1 << 50;
 
 // Runs the calls of the file, piece by piece, and hands the journal lines of each on.
 fn run_pieces<'a, F: Read, L: Fn(&[u8]) -> Result<(), Failure<'a>>>(
-    opened: Register,
+    opened: Board,
     file: &mut F,
     text: &mut [u8],
     out: &mut [u8],
     on_lines: &L,
-) -> Result<Register, Failure<'a>>
-    requires opened { Kept opened × (length text.old ≡ 352256) × (length out.old ≡ 450560) }
+) -> Result<Board, Failure<'a>>
+    requires rooms { (length text.old ≡ 352256) × (length out.old ≡ 450560) }
     requires on_lines { L.IsAlwaysCallable on_lines.now }
-    ensures { IfOk result (λ register. Kept register) }
 {
-    let mut register = opened;
+    let mut board = opened;
     for piece in 0..MOST_PIECES {
         let filled = fill(file, text);
-        let ran = calls::run(register, &text[..filled.bytes], out);
-        register = ran.register;
-        on_lines(&out[..LINE_SIZE * ran.lines])?;
+        let (next, lines) = board.run(&text[..filled.bytes], out);
+        board = next;
+        on_lines(&out[..LINE_SIZE * lines])?;
         filled.check(b"calls")?;
-        if CALL_SIZE * ran.lines != filled.bytes {
+        if CALL_SIZE * lines != filled.bytes {
             return Err(Failure::Malformed {
-                line: PIECE_LINES as u64 * piece + ran.lines as u64 + 1,
+                line: PIECE_LINES as u64 * piece + lines as u64 + 1,
             });
         }
         if filled.bytes < text.len() {
-            return Ok(register);
+            return Ok(board);
         }
     }
     Err(Failure::Endless)
@@ -72,13 +70,11 @@ fn room<const N: usize>() -> [u8; N]
 
 // Runs the calls of the file.
 fn run_calls<'a, F: Read, L: Fn(&[u8]) -> Result<(), Failure<'a>>>(
-    opened: Register,
+    opened: Board,
     file: &mut F,
     on_lines: &L,
-) -> Result<Register, Failure<'a>>
-    requires opened { Kept opened }
-    requires on_lines { L.IsAlwaysCallable on_lines.now }
-    ensures { IfOk result (λ register. Kept register) }
+) -> Result<Board, Failure<'a>>
+    requires { L.IsAlwaysCallable on_lines.now }
 {
     let mut text = room::<CALLS_SIZE>();
     let mut out = room::<LINES_SIZE>();
@@ -86,19 +82,18 @@ fn run_calls<'a, F: Read, L: Fn(&[u8]) -> Result<(), Failure<'a>>>(
 }
 
 // Makes the calls of the file `calls` on the board of the file `plan`, and hands their journal lines on as they come.
-// Where the plan is refused there is no register: its answer is printed.
+// Where the plan is refused there is no board: its answer is printed.
 pub fn run_folder<'a, R: Files + Print, L: Fn(&[u8]) -> Result<(), Failure<'a>>>(
     rt: &R,
     on_lines: &L,
-) -> Result<Option<Register>, Failure<'a>>
+) -> Result<Option<Board>, Failure<'a>>
     requires { L.IsAlwaysCallable on_lines.now }
-    ensures { IfOk result (λ ran. IfSome ran (λ register. Kept register)) }
 {
     let mut text = [0; PLAN_SIZE];
     let filled = read_file(rt, b"plan", &mut text);
     filled.check(b"plan")?;
-    let opened = board::open(&text[..filled.bytes]);
-    if let Err(refusal) = opened.answer {
+    let (board, answer) = Board::open(&text[..filled.bytes]);
+    if let Err(refusal) = answer {
         print_number(rt, u16::from(refusal))?;
         return Ok(None);
     }
@@ -106,11 +101,11 @@ pub fn run_folder<'a, R: Files + Print, L: Fn(&[u8]) -> Result<(), Failure<'a>>>
         name: b"calls",
         error,
     })?;
-    Ok(Some(run_calls(opened.register, &mut file, on_lines)?))
+    Ok(Some(run_calls(board, &mut file, on_lines)?))
 }
 
 // Prints the journal of the files `plan` and `calls`.
 pub fn print_journal<R: Files + Print + Eprint>(rt: &R) {
     let ran = run_folder(rt, &|lines: &[u8]| print(rt, lines));
-    say_failure(rt, ran.map(|_register| ()));
+    say_failure(rt, ran.map(|_board| ()));
 }

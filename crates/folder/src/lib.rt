@@ -6,11 +6,13 @@
 mod failure;
 mod input;
 mod journal;
+mod open_board;
 mod output;
 mod page;
 
 pub use failure::{Failure, say_failure};
 pub use input::{Filled, read_file};
 pub use journal::{PLAN_SIZE, print_journal};
-pub use output::{print, print_number};
+pub use open_board::Board;
+pub use output::{print, print_number, print_row};
 pub use page::{print_page, print_sheet};

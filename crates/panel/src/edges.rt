@@ -1,10 +1,9 @@
 // The cases that no file of calls can show: buffers of other lengths, for a line and for a page, and the last number
 // allotted.
-ghost use Rattle.rules.specs.Step.{Kept};
-
 use crate::output::{print, print_number};
 use crate::scenario::{open_board, put_call, run_files};
-use rules::{Register, Seven, answer_number};
+use folder::Board;
+use rules::{Seven, answer_number};
 use std::rt::Files;
 
 // A REQUEST by officer 7 for an LPA over portion 1.
@@ -34,56 +33,47 @@ fn withdraw(number: u16) -> Seven {
 }
 
 // Puts a REQUEST with the buffer given; prints the answer, then the whole buffer as it comes back.
-fn request_into<R: Print + Eprint>(rt: &R, register: Register, buffer: &mut [u8]) -> Register
-    requires { Kept register }
-    ensures { Kept result }
-{
-    let called = board::call(register, request(), buffer);
-    print_number(rt, answer_number(called.answer));
+fn request_into<R: Print + Eprint>(rt: &R, board: Board, buffer: &mut [u8]) -> Board {
+    let (board, answer) = board.call(request(), buffer);
+    print_number(rt, answer_number(answer));
     print(rt, buffer);
     print(rt, b"\n");
-    called.register
+    board
 }
 
 // 54 bytes give 1 and stay as they were; 55 serve, and have number 1; of 60 the later five stay.
 pub fn buffers<R: Files + Print + Eprint>(rt: &R) {
     print(rt, b"buffers of 54, 55 and 60 bytes\n");
-    let opened = open_board(rt, b"plan-line");
+    let (board, _answer) = open_board(rt, b"plan-line");
     let mut short = [46u8; 54];
-    let register = request_into(rt, opened.register, &mut short);
+    let board = request_into(rt, board, &mut short);
     let mut just = [46u8; 55];
-    let register = request_into(rt, register, &mut just);
+    let board = request_into(rt, board, &mut just);
     let mut long = [46u8; 60];
-    request_into(rt, register, &mut long);
+    request_into(rt, board, &mut long);
 }
 
 // A REQUEST and its WITHDRAW, not printed.
-fn request_and_withdraw(register: Register, number: u16) -> Register
-    requires { Kept register }
-    ensures { Kept result }
-{
+fn request_and_withdraw(board: Board, number: u16) -> Board {
     let silent = |_line: &[u8]| ();
-    let requested = put_call(register, request(), &silent);
+    let requested = put_call(board, request(), &silent);
     put_call(requested, withdraw(number), &silent)
 }
 
 // 9998 numbers allotted, and none live.
-fn nearly_all_allotted(opened: Register) -> Register
-    requires { Kept opened }
-    ensures { Kept result }
-{
-    let mut register = opened;
+fn nearly_all_allotted(opened: Board) -> Board {
+    let mut board = opened;
     for number in 1..9999 {
-        register = request_and_withdraw(register, number);
+        board = request_and_withdraw(board, number);
     }
-    register
+    board
 }
 
 // The last number is 9999. After it every REQUEST is 9, though no authority is live.
 pub fn last_number<R: Files + Print + Eprint>(rt: &R) {
     print(rt, b"9999 numbers allotted\n");
-    let opened = open_board(rt, b"plan-line");
-    let mut register = nearly_all_allotted(opened.register);
+    let (opened, _answer) = open_board(rt, b"plan-line");
+    let mut board = nearly_all_allotted(opened);
     let calls = [
         request(),
         request(),
@@ -92,16 +82,14 @@ pub fn last_number<R: Files + Print + Eprint>(rt: &R) {
         withdraw(9999),
     ];
     for seven in calls {
-        register = put_call(register, seven, &|line: &[u8]| print(rt, line));
+        board = put_call(board, seven, &|line: &[u8]| print(rt, line));
     }
 }
 
 // Writes the sheet into the buffer given; prints the answer and the number of lines, then the whole buffer as it comes
 // back.
-fn sheet_into<R: Print + Eprint>(rt: &R, register: &Register, buffer: &mut [u8])
-    requires { Kept register.now }
-{
-    let (answer, lines) = match sheet::write_sheet(register, buffer) {
+fn sheet_into<R: Print + Eprint>(rt: &R, board: &Board, buffer: &mut [u8]) {
+    let (answer, lines) = match board.write_sheet(buffer) {
         Ok(lines) => (0, lines as u16),
         Err(refusal) => (u16::from(refusal), 0),
     };
@@ -116,13 +104,13 @@ fn sheet_into<R: Print + Eprint>(rt: &R, register: &Register, buffer: &mut [u8])
 pub fn pages<R: Files + Print + Eprint>(rt: &R) {
     print(rt, b"pages of 2408, 2409 and 2500 bytes\n");
     let silent = |_line: &[u8]| ();
-    let register = run_files(rt, b"plan-line", b"calls-e1-e6", &silent);
+    let board = run_files(rt, b"plan-line", b"calls-e1-e6", &silent);
     let mut short = [46u8; 2408];
-    sheet_into(rt, &register, &mut short);
+    sheet_into(rt, &board, &mut short);
     let mut just = [46u8; 2409];
-    sheet_into(rt, &register, &mut just);
+    sheet_into(rt, &board, &mut just);
     let mut long = [46u8; 2500];
-    sheet_into(rt, &register, &mut long);
+    sheet_into(rt, &board, &mut long);
     print(rt, b"a page of 33 lines in 2409 bytes\n");
     let full = run_files(rt, b"plan-full", b"calls-sheet-32", &silent);
     sheet_into(rt, &full, &mut just);

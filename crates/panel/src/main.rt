@@ -38,7 +38,7 @@ fn main(rt: HostRuntime) {
         rt,
         b"registers",
         &|plan: &[u8], calls: &[u8]| {
-            print_held(rt, &run_files(rt, plan, calls, &silent));
+            print_held(rt, run_files(rt, plan, calls, &silent).register());
         },
     );
 }

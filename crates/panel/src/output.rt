@@ -1,8 +1,5 @@
 // Reading and printing where the panel goes on after what fails: it is said, on standard error.
-ghost use Rattle.rules.specs.Step.{Kept};
-
-use folder::{read_file, say_failure};
-use rules::Register;
+use folder::{Board, read_file, say_failure};
 use std::rt::Files;
 
 // Reads the file of that name to the front of the buffer, and gives what was read.
@@ -17,14 +14,17 @@ pub fn print<R: Print + Eprint>(rt: &R, text: &[u8]) {
     say_failure(rt, folder::print(rt, text));
 }
 
+// Prints numbers, each in columns of 6, and a line feed.
+pub fn print_row<R: Print + Eprint>(rt: &R, numbers: &[u16]) {
+    say_failure(rt, folder::print_row(rt, numbers));
+}
+
 // Prints a number in 6 columns and a line feed.
 pub fn print_number<R: Print + Eprint>(rt: &R, n: u16) {
     say_failure(rt, folder::print_number(rt, n));
 }
 
-// Prints the sheet of a register.
-pub fn print_page<R: Print + Eprint>(rt: &R, register: &Register)
-    requires { Kept register.now }
-{
-    say_failure(rt, folder::print_page(rt, register));
+// Prints the sheet of a board.
+pub fn print_page<R: Print + Eprint>(rt: &R, board: &Board) {
+    say_failure(rt, folder::print_page(rt, board));
 }
