@@ -3,6 +3,7 @@ use Rattle.std.proofs.Common.{◌≡◌, refl, sym, ap, subst, ◌∙◌, ℕ, s
 use Rattle.std.specs.Option.{ok_or}
 use Rattle.std.specs.Result.{IsErrAnd}
 use Rattle.std.proofs.lemmas.Result.{err_from_is_err_and}
+use Rattle.std.proofs.lemmas.List.{length-set}
 use Rattle.rules.specs.declared.Seven.{Seven}
 use Rattle.rules.specs.declared.Call.{Call}
 use Rattle.rules.specs.declared.refusal.Refusal as Refused
@@ -14,7 +15,7 @@ use Rattle.rules.specs.declared.Register.{Register}
 use Rattle.rules.specs.Board.{Board, board_of, with_stamp}
 use Rattle.rules.specs.Call.{is_call, in_ranges, named, decoded}
 use Rattle.rules.specs.Refusals.{◌when◌, lowest, early, own, conditions, answer}
-use Rattle.rules.specs.Effects.{effect}
+use Rattle.rules.specs.Effects.{booked_out, booked_in, effect}
 use Rattle.rules.specs.Answer.{refusal_no, answer_no, number_no, is_numbered}
 use Rattle.rules.specs.Step.{Kept, Bounds, Once, Starts, after, allotted}
 use Rattle.rules.proofs.Accepted.{Ranges, in_ranges_lem}
@@ -143,33 +144,34 @@ stamped day time r = record {
   trains = r.trains;
 }
 
--- no call changes the portions
-portions_stay : (b : Board) (c : Call) → (effect b (Some c)).portions ≡ b.portions
+-- no call changes the portions, or how many bookings there are
+sizes_stay : (b : Board) (c : Call) → ((effect b (Some c)).portions ≡ b.portions) × (length (effect b (Some c)).bookings ≡ length b.bookings)
 unfolding effect
-portions_stay b (Request kind first last officer) = refl
-portions_stay b (Withdraw n officer) = refl
-portions_stay b (Agree toa twa officer) = refl
-portions_stay b (Block g) = refl
-portions_stay b (Unblock g) = refl
-portions_stay b (Grant n officer) = refl
-portions_stay b (Clear n officer) = refl
-portions_stay b (Reoccupy n officer) = refl
-portions_stay b (HandOver n out into) = refl
-portions_stay b (Fulfil n officer assurances) = refl
-portions_stay b (Continue old new officer_old officer_new) = refl
-portions_stay b (Move t g n officer) = refl
-portions_stay b (Passed t) = refl
-portions_stay b (Term n day time length) = refl
-portions_stay b (Join twa toa officer distance) = refl
-portions_stay b (BookOut g paper) = refl
-portions_stay b (BookIn g paper certified new) = refl
+sizes_stay b (Request kind first last officer) = (refl, refl)
+sizes_stay b (Withdraw n officer) = (refl, refl)
+sizes_stay b (Agree toa twa officer) = (refl, refl)
+sizes_stay b (Block g) = (refl, refl)
+sizes_stay b (Unblock g) = (refl, refl)
+sizes_stay b (Grant n officer) = (refl, refl)
+sizes_stay b (Clear n officer) = (refl, refl)
+sizes_stay b (Reoccupy n officer) = (refl, refl)
+sizes_stay b (HandOver n out into) = (refl, refl)
+sizes_stay b (Fulfil n officer assurances) = (refl, refl)
+sizes_stay b (Continue old new officer_old officer_new) = (refl, refl)
+sizes_stay b (Move t g n officer) = (refl, refl)
+sizes_stay b (Passed t) = (refl, refl)
+sizes_stay b (Term n day time length) = (refl, refl)
+sizes_stay b (Join twa toa officer distance) = (refl, refl)
+sizes_stay b (BookOut g paper) = (refl, length-set b.bookings g.0 (booked_out paper))
+sizes_stay b (BookIn g paper certified new) = (refl, length-set b.bookings g.0 (booked_in paper certified new))
 
 bounds_stay : (r out : Register) (c : Call) (day time : ℕ) → Bounds r → board_of out ≡ effect (board_of r) (Some c)
     → Once (board_of (stamped day time out)) → Bounds (stamped day time out)
 unfolding board_of
 bounds_stay r out c day time k e o = record {
-  portions = rw (ap (λ (b : Board). b.portions) e ∙ portions_stay (board_of r) c) k.portions;
+  portions = rw (ap (λ (b : Board). b.portions) e ∙ (sizes_stay (board_of r) c).0) k.portions;
   gates = rw (ap (λ (b : Board). b.gates) e ∙ gates_stay (board_of r) (Some c)) k.gates;
+  booked = rw (ap (λ (b : Board). length b.bookings) e ∙ (sizes_stay (board_of r) c).1) k.booked;
   live = o.live;
   running = o.running;
 }
