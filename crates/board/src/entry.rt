@@ -8,8 +8,7 @@ ghost use Rattle.rules.specs.Step.{Kept, OpenPost, CallPost};
 use arrayvec::ArrayVec;
 use plan::{Plan, read_plan};
 use rules::{
-    Answer, Booking, Called, Opened, Refusal, Register, Seven, allotted_number,
-    answer_number,
+    Answer, Booking, Called, Opened, Refusal, Register, Seven, allotted_number, answer_number,
 };
 
 // A freshly opened board: no gate of it is out.
