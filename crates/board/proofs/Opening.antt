@@ -1,12 +1,12 @@
 -- What opening leaves: a fresh register stands for the board that the plan opens. Assumes nothing.
-use Rattle.std.proofs.Common.{◌≡◌, refl, sym, ap, subst, ◌∙◌, ℕ, ◌≤◌, lit≤, length, true, false, List, [], Option, Some, None, Result, Ok, Err}
+use Rattle.std.proofs.Common.{◌≡◌, sym, ap, subst, ◌∙◌, ℕ, ◌≤◌, lit≤, length, List, [], Some, None, Ok, Err}
+use Rattle.std.proofs.lemmas.List.{length-replicate}
 use Rattle.rules.specs.declared.Gate.{Gate}
 use Rattle.rules.specs.declared.Register.{Register}
 use Rattle.rules.specs.declared.refusal.Refusal.TheVariants.{Plan}
-use Rattle.rules.specs.Board.{Board, board_of, opened, closed}
-use Rattle.rules.specs.Plan.{open_board, open_answer, is_plan}
-use Rattle.rules.specs.Answer.{answer_no}
-use Rattle.rules.specs.Step.{Bounds, Once, Starts, Kept, OpenPost}
+use Rattle.rules.specs.Board.{Board, board_of, no_booking, opened, closed}
+use Rattle.rules.specs.Plan.{open_board, open_answer}
+use Rattle.rules.specs.Step.{Once, Starts, Kept, OpenPost}
 use Rattle.rules.proofs.Once.{once_opened}
 use Rattle.rules.proofs.Terms.{starts_opened}
 use Rattle.plan.specs.declared.text.Plan as Read
@@ -19,6 +19,7 @@ kept_fresh r portions gates e h l = record {
   bounds = record {
     portions = rw (ap (λ (b : Board). b.portions) e) h;
     gates = rw (ap (λ (b : Board). b.gates) e) l;
+    booked = rw (ap (λ (b : Board). length b.bookings) e ∙ length-replicate (length gates) no_booking) l;
     live = (subst Once (sym e) (once_opened portions gates)).live;
     running = (subst Once (sym e) (once_opened portions gates)).running;
   };

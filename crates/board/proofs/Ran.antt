@@ -10,7 +10,6 @@ use contract.Lifetimes.{Lfts}
 use denote.Triple.Clauses.{AtExit}
 use borrow.Fn.Kinds.{Dens, ended_of}
 use Rattle.std.specs.Prelude.{Some}
-use Rattle.lists.specs.Search.{any}
 use Rattle.lists.specs.Distinct.{Distinct}
 use Rattle.lists.specs.Order.{Ascending}
 use Rattle.std.proofs.lemmas.Bool.{or_from}

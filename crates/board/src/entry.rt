@@ -8,22 +8,15 @@ ghost use Rattle.rules.specs.Step.{Kept, OpenPost, CallPost};
 use arrayvec::ArrayVec;
 use plan::{Plan, read_plan};
 use rules::{
-    Answer, Booking, Called, Opened, PaperNo, Refusal, Register, Seven, allotted_number,
-    answer_number,
+    Answer, Booking, Called, Opened, Refusal, Register, Seven, allotted_number, answer_number,
 };
 
 // A freshly opened board: no gate of it is out.
 fn fresh(plan: Plan) -> Register
     ensures { board_of result ≡ opened plan.portions plan.gates.items }
 {
-    let none = Booking {
-        paper: PaperNo(0),
-        replaced: PaperNo(0),
-    };
-    let mut bookings = ArrayVec::new();
-    for _gate in plan.gates.as_slice() {
-        bookings.push(none);
-    }
+    let mut bookings = ArrayVec::from([Booking::default(); 64]);
+    bookings.truncate(plan.gates.len());
     Register {
         portions: plan.portions,
         gates: plan.gates,

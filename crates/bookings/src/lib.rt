@@ -21,7 +21,8 @@ pub fn booking_at(bookings: &[Booking], g: GateNo) -> Booking
 pub fn can_be_blocked(register: &Register, g: GateNo) -> bool
     ensures { result ≡ can_be_blocked (board_of register.now) g.0 }
 {
-    gates::gate_at(&register.gates, g).kind != 4 || booking_at(&register.bookings, g).paper.0 != 0
+    gates::gate_at(&register.gates, g).kind != 4
+        || booking_at(&register.bookings, g).paper != PaperNo(0)
 }
 
 #[tactic(auto, unfolding(rules::specs::Board::board_of, rules::specs::Board::is_out, rules::specs::Refusals::lowest))]
@@ -29,7 +30,7 @@ pub fn answer_book_out(register: &Register, g: GateNo) -> Result<(), Refusal>
     ensures { answer_no result ≡ lowest (book_out_refusals (board_of register.now) g.0) }
 {
     let booking = booking_at(&register.bookings, g);
-    if booking.paper.0 != 0 {
+    if booking.paper != PaperNo(0) {
         return Err(Refusal::AlreadySo);
     }
     let gate = gates::gate_at(&register.gates, g);

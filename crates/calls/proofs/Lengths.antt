@@ -7,6 +7,7 @@ use mathlib.Core.List.{List, [], ◌∷◌}
 use lib.ListN.{length, take, drop, length-append}
 use lib.Dec.{eqb, leb}
 use borrow.Author.Tests.{leb-true}
+use Rattle.std.proofs.lemmas.Bool.{cond_both}
 use Rattle.lists.proofs.Tests.{and_l, and_r}
 use Rattle.lists.proofs.Search.{Each}
 use Rattle.reading.proofs.Rows.{at_most}
@@ -14,7 +15,7 @@ use Rattle.rules.specs.declared.Seven.{Seven}
 use Rattle.rules.specs.Board.{Board}
 use Rattle.rules.specs.Refusals.{answer}
 use Rattle.rules.specs.Step.{Once, after, allotted}
-use Rattle.rules.proofs.Answers.{cond_most, answer_most}
+use Rattle.rules.proofs.Answers.{answer_most}
 use Rattle.rules.proofs.Once.{once_after}
 use Rattle.rules.proofs.Lines.{Small, line_55}
 use Rattle.std.specs.Prelude.{Option, Some, None}
@@ -34,7 +35,7 @@ line_on_lem : (b : Board) (c : Seven) → Once b → SmallCall c → length (lin
 unfolding allotted
 line_on_lem b c o (p, (q, (r, (s, (t, (u, (v, w))))))) =
     let few : allotted b c 55 ≤ 10000 =
-    cond_most (eqb (answer b c 55) 0 && eqb c.call 1) (suc b.last) 0 10000 (omega (arith, o.last)) (omega arith) in
+    cond_both (eqb (answer b c 55) 0 && eqb c.call 1) (suc b.last) 0 (λ n. n ≤ 10000) (λ e. omega (arith, o.last)) (λ e. omega arith) in
     line_55 c (answer b c 55) (allotted b c 55) (p, (q, (r, (s, (t, (u, (v, (omega (arith, answer_most b c 55), (omega arith, w)))))))))
 
 -- THEOREM: 55 bytes for each call

@@ -8,7 +8,7 @@ use rules::Register;
 use take::take;
 
 // The register after a run, and how many calls it made.
-#[derive(Drop)]
+#[derive(Clone, Drop)]
 pub struct Ran {
     pub register: Register,
     pub lines: usize,

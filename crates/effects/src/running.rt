@@ -12,7 +12,7 @@ ghost use Rattle.effects.specs.Room.{HasRoom, is_above};
 use arrayvec::ArrayVec;
 use changes::{end_authority, put_in_force};
 use lists::change;
-use rules::{Authority, AuthorityNo, GateNo, Register, Train, TrainNo};
+use rules::{AuthorityNo, GateNo, Register, Train, TrainNo};
 
 pub fn fulfil(register: &mut Register, n: AuthorityNo)
     ensures { (officer assurances : ℕ) → board_of register.new
@@ -27,16 +27,6 @@ pub fn fulfil(register: &mut Register, n: AuthorityNo)
             ..t
         },
     );
-}
-
-// The limits of the live authority with that number, none where there is none.
-fn limits_of(authorities: &[Authority], n: AuthorityNo) -> u64
-    ensures { result ≡ (unwrap_or (find (is_authority n.0) authorities.now) no_authority).limits }
-{
-    match authorities::find(authorities, n) {
-        Some(a) => a.limits,
-        None => 0,
-    }
 }
 
 // The authority of a train whose own is continued: the new one where its head is in the limits, else none.
@@ -54,7 +44,9 @@ pub fn continue_as(register: &mut Register, old: AuthorityNo, new: AuthorityNo)
     ensures { (officer_old officer_new : ℕ) → board_of register.new
         ≡ effect (board_of register.old) (Some (Call.Continue old new officer_old officer_new)) }
 {
-    let limits = limits_of(&register.authorities, new);
+    let limits = authorities::find(&register.authorities, new)
+        .unwrap_or_default()
+        .limits;
     end_authority(&mut register.authorities, old);
     put_in_force(&mut register.authorities, new);
     change(
@@ -71,7 +63,7 @@ pub fn continue_as(register: &mut Register, old: AuthorityNo, new: AuthorityNo)
 fn first_above(trains: &[Train], n: TrainNo) -> Option<usize>
     ensures { result ≡ position (is_above n.0) trains.now }
 {
-    trains.iter().position(|t| n.0 < t.number.0)
+    trains.iter().position(|t| n < t.number)
 }
 
 // One more train, put before the first with a higher number.
@@ -111,20 +103,11 @@ pub fn move_train(register: &mut Register, t: TrainNo, g: GateNo, n: AuthorityNo
     }
 }
 
-// The head of the train with that number, 0 where there is none.
-fn head_of(trains: &[Train], n: TrainNo) -> u16
-    ensures { result ≡ (unwrap_or (find (is_train n.0) trains.now) no_train).head }
-{
-    match trains::find_train(trains, n) {
-        Some(t) => t.head,
-        None => 0,
-    }
-}
-
 pub fn passed(register: &mut Register, t: TrainNo)
     ensures { board_of register.new ≡ effect (board_of register.old) (Some (Call.Passed t)) }
 {
-    if head_of(&register.trains, t) == 99 {
+    let train = trains::find_train(&register.trains, t).unwrap_or_default();
+    if train.head == 99 {
         register.trains.retain(|x| x.number != t);
     } else {
         change(

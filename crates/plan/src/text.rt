@@ -8,7 +8,7 @@ use arrayvec::ArrayVec;
 use rules::Gate;
 
 // The plan read: how many portions, and the gates in the order of their lines.
-#[derive(Drop)]
+#[derive(Clone, Drop)]
 pub struct Plan {
     pub portions: u16,
     pub gates: ArrayVec<Gate, 64>,

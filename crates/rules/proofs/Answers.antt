@@ -1,6 +1,7 @@
 -- Demands 1 and 2 of the rules: "the lowest number whose condition holds is given", accepted exactly where no condition holds, and
 -- what a refused call leaves; and the greatest answer. Assumes nothing.
 use Rattle.std.specs.Prelude.{Option, Some, None}
+use Rattle.std.proofs.lemmas.Bool.{cond_both}
 use Prim.Native.Nat.{ℕ, ◌≤◌, ◌<◌}
 use native.Mathlib.Omega.{arith}
 use mathlib.Core.Path.{◌≡◌, refl, sym, ap, ◌∙◌}
@@ -197,10 +198,6 @@ at_none n (r ∷ rs) h = at_step n r rs (h r (Memᴰ.head refl)) (at_none n rs (
 
 -- ---- no answer is above the greatest refusal
 
-pub cond_most : (t : Bool) (x y most : ℕ) → x ≤ most → y ≤ most → cond t x y ≤ most
-cond_most true x y most h k = h
-cond_most false x y most h k = k
-
 -- what the numbers are above is itself at most the greatest
 below_greatest : (n : ℕ) (rs : List Refusal) → ascends n rs ≡ true → n ≤ greatest
 unfolding ascends
@@ -214,7 +211,7 @@ unfolding ascends lowest
 lowest_most n [] h = omega arith
 lowest_most n (r ∷ rs) h =
     let rest = and_r (ltb n r.number) (ascends r.number rs) h in
-    cond_most r.holds r.number (lowest rs) greatest (below_greatest r.number rs rest) (lowest_most r.number rs rest)
+    cond_both r.holds r.number (lowest rs) (λ n. n ≤ greatest) (λ e. below_greatest r.number rs rest) (λ e. lowest_most r.number rs rest)
 
 pub answer_most : (b : Board) (s : Seven) (room : ℕ) → answer b s room ≤ greatest
 unfolding answer

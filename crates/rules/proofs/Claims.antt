@@ -2,7 +2,7 @@
 use Prim.Native.Nat.{ℕ, ◌<◌}
 use native.Mathlib.Omega.{arith}
 use mathlib.Core.Path.{◌≡◌, refl, sym, subst, ◌∙◌}
-use mathlib.Core.Logic.{◌⊎◌, inl, inr, ⊎_elim, ⊎_map}
+use mathlib.Core.Logic.{◌⊎◌, inl, ⊎_elim, ⊎_map, ⊎_swap}
 use mathlib.Core.Bool.{Bool, true, false≢true}
 use mathlib.Core.List.{List}
 use lib.ListN.{length}
@@ -109,10 +109,6 @@ module _ (gates : List Gate) (r : Reckoning) (n : ℕ) (x : Reckoned) (N : New g
   abbrev A : ℕ → Reckoned
   A = r.authority
 
-  flip : {C D : Type 0} → C ⊎ D → D ⊎ C
-  flip (inl c) = inr c
-  flip (inr d) = inl d
-
   -- two in force at a portion p
   Both : ℕ → ℕ → ℕ → Reckoned → Reckoned → Type 0
   Both p m k u v = (m ≡ k → ⊥) → u.is_in_force ≡ true → v.is_in_force ≡ true → In u p → In v p → Agreed u m v ⊎ Agreed v k u
@@ -122,7 +118,7 @@ module _ (gates : List Gate) (r : Reckoning) (n : ℕ) (x : Reckoned) (N : New g
   both_new p k ne =
       subst (λ (v : Reckoned). x.is_in_force ≡ true → v.is_in_force ≡ true → In x p → In v p → Agreed x n v ⊎ Agreed v k x)
       (sym (put_other n x A k (λ e. ne (sym e))))
-      (λ fx fk ix ik. flip (N.apart k p (λ e. ne (sym e)) fk ik ix))
+      (λ fx fk ix ik. ⊎_swap (N.apart k p (λ e. ne (sym e)) fk ik ix))
 
   both_old : (p m : ℕ) → (m ≡ n → ⊥) → (k : ℕ) → Both p m k (A m) (put n x A k)
   unfolding Both

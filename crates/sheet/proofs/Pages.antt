@@ -6,7 +6,7 @@ use Prim.Native.Nat.{ℕ, ◌+◌, ◌-◌, ◌*◌, ◌≤◌, ◌<◌}
 use native.Mathlib.Omega.{arith}
 use borrow.Author.Tests.{lt-ltb, le-ltb}
 use native.Mathlib.Numerals.{add-one}
-use lib.Seq.{take-suc, take_all}
+use lib.Seq.{take-suc}
 use lib.ListN.{length, take, drop, get_or, length-append, length-drop, length-map}
 use borrow.Rule.Slice.PartMut.{put_mid}
 use Rattle.lists.proofs.Search.{member_at}
@@ -57,13 +57,6 @@ module _ (xs : List Authority) (now i : ℕ) (page₀ page : List ℕ) (b : List
       rw (next, at)
       (printed_next (map (authority_line now) (take i xs)) line (73 * i) page₀ page (omega arith) b
       (ap length e ∙ authority_73 cells c.1))
-
--- after the last authority
-pub listed_end : (xs : List Authority) (now i : ℕ) (page₀ page : List ℕ) → i ≡ length xs → Listed xs now i page₀ page
-    → let lines = map (authority_line now) xs in page ≡ page_of lines ++ drop (73 * length lines) page₀
-listed_end xs now i page₀ page e b =
-    let all : take i xs ≡ xs = take_all i xs (omega arith) in
-    b.bytes ∙ rw (all, length-map xs (authority_line now), e)
 
 -- ---- the whole page
 

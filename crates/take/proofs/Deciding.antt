@@ -1,8 +1,13 @@
 -- A call in the steps of the code: what the decoded call says of the answer, and what a call with room for its line leaves. Assumes nothing.
-use Rattle.std.proofs.Common.{◌≡◌, refl, sym, ap, subst, ◌∙◌, ℕ, suc, ◌+◌, ◌≤◌, Bool, true, false, cond, ◌&&◌, List, ◌∷◌, length, eqb, eq-eqb, ne_eqb, arith, add-one, Option, Some, None, Result, Ok, Err}
+use Rattle.std.proofs.Common.{◌≡◌, refl, sym, ap, subst, ◌∙◌, ℕ, suc, Bool, true, false, cond, ◌∷◌, length, eqb, eq-eqb, ne_eqb, arith, Option, Some, None, Result, Ok, Err}
+use Rattle.std.proofs.Common.{zero, ⊎_elim, drop}
+use lib.ListN.{get_or-eq_default}
 use Rattle.std.specs.Option.{ok_or}
 use Rattle.std.specs.Result.{IsErrAnd}
 use Rattle.std.proofs.lemmas.Result.{err_from_is_err_and}
+use Rattle.std.proofs.lemmas.List.{length-set}
+use Rattle.lists.proofs.Tests.{lt_or_le}
+use Rattle.lists.proofs.Search.{Each, each_at}
 use Rattle.rules.specs.declared.Seven.{Seven}
 use Rattle.rules.specs.declared.Call.{Call}
 use Rattle.rules.specs.declared.refusal.Refusal as Refused
@@ -12,9 +17,10 @@ use Rattle.rules.specs.declared.AuthorityNo.{AuthorityNo}
 use Rattle.rules.specs.declared.Call.TheVariants.{Request, Withdraw, Agree, Block, Unblock, Grant, Clear, Reoccupy, HandOver, Fulfil, Continue, Move, Passed, Term, Join, BookOut, BookIn}
 use Rattle.rules.specs.declared.Register.{Register}
 use Rattle.rules.specs.Board.{Board, board_of, with_stamp}
-use Rattle.rules.specs.Call.{is_call, in_ranges, named, decoded}
+use Rattle.rules.specs.declared.kind.Kind.{Kind}
+use Rattle.rules.specs.Call.{Entry, kind_of, calls, no_entry, entry_of, is_call, in_ranges, named, decoded}
 use Rattle.rules.specs.Refusals.{◌when◌, lowest, early, own, conditions, answer}
-use Rattle.rules.specs.Effects.{effect}
+use Rattle.rules.specs.Effects.{booked_out, booked_in, effect}
 use Rattle.rules.specs.Answer.{refusal_no, answer_no, number_no, is_numbered}
 use Rattle.rules.specs.Step.{Kept, Bounds, Once, Starts, after, allotted}
 use Rattle.rules.proofs.Accepted.{Ranges, in_ranges_lem}
@@ -143,38 +149,39 @@ stamped day time r = record {
   trains = r.trains;
 }
 
--- no call changes the portions
-portions_stay : (b : Board) (c : Call) → (effect b (Some c)).portions ≡ b.portions
+-- no call changes the portions, or how many bookings there are
+sizes_stay : (b : Board) (c : Call) → ((effect b (Some c)).portions ≡ b.portions) × (length (effect b (Some c)).bookings ≡ length b.bookings)
 unfolding effect
-portions_stay b (Request kind first last officer) = refl
-portions_stay b (Withdraw n officer) = refl
-portions_stay b (Agree toa twa officer) = refl
-portions_stay b (Block g) = refl
-portions_stay b (Unblock g) = refl
-portions_stay b (Grant n officer) = refl
-portions_stay b (Clear n officer) = refl
-portions_stay b (Reoccupy n officer) = refl
-portions_stay b (HandOver n out into) = refl
-portions_stay b (Fulfil n officer assurances) = refl
-portions_stay b (Continue old new officer_old officer_new) = refl
-portions_stay b (Move t g n officer) = refl
-portions_stay b (Passed t) = refl
-portions_stay b (Term n day time length) = refl
-portions_stay b (Join twa toa officer distance) = refl
-portions_stay b (BookOut g paper) = refl
-portions_stay b (BookIn g paper certified new) = refl
+sizes_stay b (Request kind first last officer) = (refl, refl)
+sizes_stay b (Withdraw n officer) = (refl, refl)
+sizes_stay b (Agree toa twa officer) = (refl, refl)
+sizes_stay b (Block g) = (refl, refl)
+sizes_stay b (Unblock g) = (refl, refl)
+sizes_stay b (Grant n officer) = (refl, refl)
+sizes_stay b (Clear n officer) = (refl, refl)
+sizes_stay b (Reoccupy n officer) = (refl, refl)
+sizes_stay b (HandOver n out into) = (refl, refl)
+sizes_stay b (Fulfil n officer assurances) = (refl, refl)
+sizes_stay b (Continue old new officer_old officer_new) = (refl, refl)
+sizes_stay b (Move t g n officer) = (refl, refl)
+sizes_stay b (Passed t) = (refl, refl)
+sizes_stay b (Term n day time length) = (refl, refl)
+sizes_stay b (Join twa toa officer distance) = (refl, refl)
+sizes_stay b (BookOut g paper) = (refl, length-set b.bookings g.0 (booked_out paper))
+sizes_stay b (BookIn g paper certified new) = (refl, length-set b.bookings g.0 (booked_in paper certified new))
 
 bounds_stay : (r out : Register) (c : Call) (day time : ℕ) → Bounds r → board_of out ≡ effect (board_of r) (Some c)
     → Once (board_of (stamped day time out)) → Bounds (stamped day time out)
 unfolding board_of
 bounds_stay r out c day time k e o = record {
-  portions = rw (ap (λ (b : Board). b.portions) e ∙ portions_stay (board_of r) c) k.portions;
+  portions = rw (ap (λ (b : Board). b.portions) e ∙ (sizes_stay (board_of r) c).0) k.portions;
   gates = rw (ap (λ (b : Board). b.gates) e ∙ gates_stay (board_of r) (Some c)) k.gates;
+  booked = rw (ap (λ (b : Board). length b.bookings) e ∙ (sizes_stay (board_of r) c).1) k.booked;
   live = o.live;
   running = o.running;
 }
 
-pub taken_accepted : (r : Register) (s : Seven) (c : Call) (out : Register) (given : Result (Option AuthorityNo) Refused.Refusal) → Kept r
+taken_accepted : (r : Register) (s : Seven) (c : Call) (out : Register) (given : Result (Option AuthorityNo) Refused.Refusal) → Kept r
     → named s ≡ Some c → with_room (board_of r) s ≡ 0 → board_of out ≡ effect (board_of r) (Some c) → answer_no given ≡ 0
     → number_no given ≡ cond (eqb s.call 1) (suc (board_of r).last) 0 → is_numbered given ≡ eqb s.call 1
     → TakePost r s (stamped s.day s.time out) given
@@ -202,13 +209,49 @@ taken_accepted r s c out given k is z e accepted number numbered =
 
 -- ---- the number of an accepted call
 
-pub last_small : (r : Register) → Kept r → r.last ≤ 9999
-unfolding board_of
-last_small r k = k.once.last
+-- an entry that names another call than REQUEST
+abbrev OtherEntry : Entry → Type 0
+OtherEntry e = (s : Seven) (kind : Kind) (first last officer : ℕ) → e.named s ≡ Some (Request kind first last officer) → ⊥
 
-pub number_one : (r : Register) (s : Seven) → s.call ≡ 1 → r.last + 1 ≡ cond (eqb s.call 1) (suc (board_of r).last) 0
-unfolding board_of
-number_one r s e = rw (eq-eqb s.call 1 e, add-one r.last)
+others : Each OtherEntry (drop 1 calls)
+unfolding calls
+others =
+    (λ s k f l o e. cc, (λ s k f l o e. cc, (λ s k f l o e. cc, (λ s k f l o e. cc,
+    (λ s k f l o e. cc, (λ s k f l o e. cc, (λ s k f l o e. cc, (λ s k f l o e. cc,
+    (λ s k f l o e. cc, (λ s k f l o e. cc, (λ s k f l o e. cc, (λ s k f l o e. cc,
+    (λ s k f l o e. cc, (λ s k f l o e. cc, (λ s k f l o e. cc, (λ s k f l o e. cc, tt))))))))))))))))
 
-pub number_none : (r : Register) (s : Seven) → (s.call ≡ 1 → ⊥) → 0 ≡ cond (eqb s.call 1) (suc (board_of r).last) 0
-number_none r s h = rw (ne_eqb s.call 1 h)
+-- a call is a REQUEST where its number is 1, and in no other case
+request_one : (s : Seven) (n : ℕ) (kind : Kind) (first last officer : ℕ) → (entry_of n).named s ≡ Some (Request kind first last officer) → n ≡ 1
+unfolding entry_of calls
+request_one s zero kind first last officer e = cc
+request_one s (suc zero) kind first last officer e = refl
+request_one s (suc (suc n)) kind first last officer e =
+    ⊎_elim (λ l. absurd (each_at OtherEntry no_entry (drop 1 calls) others n l s kind first last officer e))
+    (λ l. absurd (subst OtherEntry (sym (get_or-eq_default (drop 1 calls) no_entry l)) (λ s k f l o e. cc) s kind first last officer e))
+    (lt_or_le n 16)
+
+one_request : (s : Seven) → s.call ≡ 1 → named s ≡ Some (Request (kind_of s.a) s.b s.c s.d)
+unfolding named entry_of calls
+one_request s e = rw e
+
+pub taken_request : (r : Register) (s : Seven) (kind : Kind) (first last officer : ℕ) (out : Register) → Kept r
+    → named s ≡ Some (Request kind first last officer) → with_room (board_of r) s ≡ 0
+    → board_of out ≡ effect (board_of r) (Some (Request kind first last officer))
+    → TakePost r s (stamped s.day s.time out) (Ok (Some (record { 0 = out.last })))
+unfolding board_of named effect
+taken_request r s kind first last officer out k is z e =
+    let one : s.call ≡ 1 = request_one s s.call kind first last officer is in
+    taken_accepted r s (Request kind first last officer) out _ k is z e refl (rw (eq-eqb s.call 1 one) (ap (λ (b : Board). b.last) e))
+    (sym (eq-eqb s.call 1 one))
+
+pub taken_other : (r : Register) (s : Seven) (c : Call) (out : Register) → Kept r → named s ≡ Some c → with_room (board_of r) s ≡ 0
+    → board_of out ≡ effect (board_of r) (Some c)
+    → ((kind : Kind) (first last officer : ℕ) → c ≡ Request kind first last officer → ⊥)
+    → TakePost r s (stamped s.day s.time out) (Ok None)
+taken_other r s c out k is z e other =
+    let no : s.call ≡ 1 → ⊥ = λ q. other _ _ _ _ (some_same c _ (sym is ∙ one_request s q)) in
+    taken_accepted r s c out _ k is z e refl (rw (ne_eqb s.call 1 no)) (sym (ne_eqb s.call 1 no))
+  where
+    some_same : (c d : Call) → Some c ≡ Some d → c ≡ d
+    some_same c d e = cc

@@ -37,14 +37,12 @@ pub fn take(register: &mut Register, s: Seven) -> Answer
     requires { Kept register.old }
     ensures { TakePost register.old s register.new result }
 {
-    let next = AuthorityNo(register.last + 1);
     let call = allow(register, s)?;
     effect_of(register, call);
     register.day = s.day;
     register.time = s.time;
-    if s.call == 1 {
-        Ok(Some(next))
-    } else {
-        Ok(None)
+    match call {
+        Call::Request { .. } => Ok(Some(AuthorityNo(register.last))),
+        _ => Ok(None),
     }
 }
