@@ -11,12 +11,12 @@ pub fn print_held<R: Print + Eprint>(rt: &R, register: &Register) {
     }
     print(rt, b"trains\n");
     for train in &register.trains {
-        print_row(rt, &[train.number.0, train.head, train.rear, train.with.0]);
+        print_row(rt, [train.number.0, train.head, train.rear, train.with.0]);
     }
     print(rt, b"bookings\n");
     for (gate, booking) in (0..).zip(&register.bookings) {
         if booking.paper.0 != 0 {
-            print_row(rt, &[gate, booking.paper.0, booking.replaced.0]);
+            print_row(rt, [gate, booking.paper.0, booking.replaced.0]);
         }
     }
 }

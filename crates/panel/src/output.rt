@@ -1,4 +1,6 @@
 // Reading and printing where the panel goes on after what fails: it is said, on standard error.
+ghost use Rattle.std.specs.Prelude.{◌≤◌};
+
 use folder::{Board, read_file, say_failure};
 use std::rt::Files;
 
@@ -14,8 +16,10 @@ pub fn print<R: Print + Eprint>(rt: &R, text: &[u8]) {
     say_failure(rt, folder::print(rt, text));
 }
 
-// Prints numbers, each in columns of 6, and a line feed.
-pub fn print_row<R: Print + Eprint>(rt: &R, numbers: &[u16]) {
+// Prints a row of up to four numbers, each in columns of 6, and a line feed.
+pub fn print_row<R: Print + Eprint, const N: usize>(rt: &R, numbers: [u16; N])
+    requires { N ≤ 4 }
+{
     say_failure(rt, folder::print_row(rt, numbers));
 }
 
