@@ -1,6 +1,6 @@
 -- The loop of a run: the lines written so far, and behind them the run of what is left. Assumes nothing.
 use Prim.Native.Nat.{ℕ, suc, ◌+◌, ◌-◌, ◌*◌, ◌/◌, ◌≤◌, ◌<◌}
-use native.Mathlib.Nat.{sub-zero, zero-add, add-zero, add_assoc}
+use native.Mathlib.Nat.{add-zero, add_assoc}
 use native.Mathlib.Omega.{arith}
 use mathlib.Core.Path.{◌≡◌, refl, sym, ap, ◌∙◌}
 use mathlib.Core.Bool.{Bool, true, false}
@@ -38,15 +38,6 @@ pub record SoFar (n : ℕ) (b₀ : Board) (text out₀ : List ℕ) (k : ℕ) (b 
   pub long : length out ≡ length out₀
   pub stays : drop (55 * k) out ≡ drop (55 * k) out₀
   pub run : run_of n b₀ text ≡ (going b (take (55 * k) out) k then_run run_of (n - k) b (drop (43 * k) text))
-
-pub so_far_none : (n : ℕ) (b₀ : Board) (text out₀ : List ℕ) → SoFar n b₀ text out₀ 0 b₀ out₀
-so_far_none n b₀ text out₀ = record {
-  few = omega arith;
-  within = omega arith;
-  long = refl;
-  stays = refl;
-  run = rw (sub-zero n, zero-add (run_of n b₀ text).lines);
-}
 
 module _ (n : ℕ) (b₀ : Board) (text out₀ : List ℕ) (k : ℕ) (b : Board) (out : List ℕ) (so_far : SoFar n b₀ text out₀ k b out) where
   -- a call more, with its line in the buffer

@@ -10,7 +10,7 @@ use mathlib.Core.List.Memᴰ
 use mathlib.Core.List.{List, [], ◌∷◌, ◌++◌, Memᴰ}
 use lib.ListN.{length, get_or}
 use Rattle.lists.specs.Search.{any, first, last, keep, change, below}
-use Rattle.std.proofs.lemmas.Bool.{or_from}
+use Rattle.std.proofs.lemmas.Bool.{cond_both, or_from}
 use Rattle.lists.proofs.Tests.{truth, clash, or_no_l, or_no_r}
 
 module _ {A : Type 0} where
@@ -214,18 +214,16 @@ last-below (suc n) d test p l h none =
     ⊎_elim (λ (e : p ≡ n). rw (← e, h) (last_none test p (below p) (below_none p test none)))
     (λ (g : p < n). last-below n (cond (test n) n d) test p g h none) (eq-or-lt_of_le (le_of_suc-le-suc l))
 
-cond_most : (t : Bool) (x y m : ℕ) → x ≤ m → y ≤ m → cond t x y ≤ m
-cond_most true x y m h k = h
-cond_most false x y m h k = k
-
 -- neither is above m, where no number below n is and what stands for none is not
 pub first-most : (n d m : ℕ) (test : ℕ → Bool) → n ≤ m → d ≤ m → first test d (below n) ≤ m
 unfolding first below
 first-most zero d m test l h = h
-first-most (suc n) d m test l h = cond_most (test n) n _ m (omega arith) (first-most n d m test (omega arith) h)
+first-most (suc n) d m test l h =
+    cond_both (test n) n _ (λ x. x ≤ m) (λ e. omega arith) (λ e. first-most n d m test (omega arith) h)
 
 pub last_most : (n d m : ℕ) (test : ℕ → Bool) → n ≤ m → d ≤ m → last test d (below n) ≤ m
 unfolding last below
 last_most zero d m test l h = h
 last_most (suc n) d m test l h =
-    last_most n (cond (test n) n d) m test (omega arith) (cond_most (test n) n d m (omega arith) h)
+    last_most n (cond (test n) n d) m test (omega arith)
+    (cond_both (test n) n d (λ x. x ≤ m) (λ e. omega arith) (λ e. h))
