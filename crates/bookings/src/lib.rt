@@ -13,7 +13,7 @@ use rules::{Booking, GateNo, PaperNo, Refusal, Register};
 pub fn booking_at(bookings: &[Booking], g: GateNo) -> Booking
     ensures { result ≡ booking_at bookings.now g.0 }
 {
-    bookings.get(g.0 as usize).copied().unwrap_or_default()
+    bookings.get(usize::from(g.0)).copied().unwrap_or_default()
 }
 
 // The gate can be blocked: it isn't a plain automatic signal, or it is out.

@@ -9,8 +9,8 @@ use rules::{Answer, Seven, allotted_number, answer_number};
 
 // Fills the buffer with the journal line of the call on a line: the call's seven numbers as they stand there, and what
 // was answered.
-// Kept: beside board's `write_journal`, which writes all nine numbers, the seven here are copied: a quarter of the
-// time.
+// Kept: beside board's `write_journal`, which writes all nine numbers: with it the journal program took nearly twice as
+// long (0.46 s for 0.26 s) and longer than the plain Rust program.
 pub fn write_journal(text: &[u8], s: Seven, answer: Answer, out: &mut [u8])
     requires { (line_in text.now ≡ Some s) × (length out.old ≡ 55) }
     ensures { out.new ≡ journal_line s (answer_no answer) (number_no answer) }

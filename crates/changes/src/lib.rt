@@ -139,7 +139,7 @@ pub fn term(register: &mut Register, n: AuthorityNo, day: u16, time: u16, length
 fn put_booking(bookings: &mut ArrayVec<Booking, 64>, g: GateNo, booking: Booking)
     ensures { bookings.new.items ≡ set bookings.old.items g.0 booking }
 {
-    if let Some(place) = bookings.get_mut(g.0 as usize) {
+    if let Some(place) = bookings.get_mut(usize::from(g.0)) {
         *place = booking;
     }
 }

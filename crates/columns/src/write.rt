@@ -104,6 +104,7 @@ fn line_size(widths: &[u8], numbers: &[u32], room: usize) -> Option<usize>
 }
 
 // Fills the whole slice with the line.
+// Kept: an offset, here and in sheet's `fill_cells`: the widths differ, so that no chunks give the parts.
 fn fill_line(t: &mut [u8], widths: &[u8], numbers: &[u32])
     requires { (all_fit widths.now numbers.now ≡ true) × (length t.old ≡ length (line widths.now numbers.now)) }
     ensures { t.new ≡ line widths.now numbers.now }

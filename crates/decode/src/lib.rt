@@ -10,6 +10,7 @@ use rules::{AuthorityNo, Call, Field, Form, GateNo, Kind, PaperNo, Refusal, Seve
 use stamps::is_stamp;
 
 // The kinds of the four fields of the call with that number.
+// Kept: a match on the number, here and in `name`, as document 01 names the form.
 #[tactic(auto, unfolding(rules::specs::Call::entry_of, rules::specs::Call::calls))]
 fn form_of(call: u16) -> Form
     ensures { result ≡ (entry_of call).form }

@@ -13,7 +13,7 @@ pub fn gate_at(gates: &[Gate], g: GateNo) -> Gate
     ensures { result ≡ gate_at gates.now g.0 }
 {
     // Kept: beside bookings' `booking_at`; both are one expression of std, which a generic one would only name again.
-    gates.get(g.0 as usize).copied().unwrap_or_default()
+    gates.get(usize::from(g.0)).copied().unwrap_or_default()
 }
 
 // The gate leads into the limits: its "to" is in them and its "from" isn't.

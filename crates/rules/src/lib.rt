@@ -71,6 +71,9 @@ pub struct Form {
 }
 
 // A call with its fields named.
+// Kept: MOVE's 0 for no authority and no officer, and BOOK IN's certified with its new paper beside it, are as they are
+// called: MOVE's are compared with the pilot's, which are 0 where there is none, and the range of the paper is tested by
+// both before.
 #[derive(Clone, Copy, Debug, PartialEq, Eq)]
 pub enum Call {
     Request {

@@ -22,6 +22,8 @@ const WIDTHS: [usize; 9] = [8, 7, 8, 8, 8, 8, 8, 9, 8];
 const TOTAL_WIDTHS: [usize; 3] = [9, 9, 54];
 
 // Fills the whole slice with a line of cells that fit their columns.
+// Kept: beside columns' `fill_line`: one over both would take its step as a closure on a lent part, and each would need
+// a law of its own that says what the closure leaves there.
 fn fill_cells<const N: usize>(line: &mut [u8], widths: &[usize; N], cells: &[Cell; N])
     requires { (length line.old ≡ length (cell_line widths.now cells.now)) × (cells_fit widths.now cells.now ≡ true) }
     ensures { line.new ≡ cell_line widths.now cells.now }
