@@ -2,5 +2,6 @@
 pub mod Parts
 pub mod Lengths
 pub mod Counting
+pub mod Lent
 mod Journals
 mod Running

@@ -215,11 +215,43 @@ OtherEntry e = (s : Seven) (kind : Kind) (first last officer : ℕ) → e.named 
 
 others : Each OtherEntry (drop 1 calls)
 unfolding calls
-others =
-    (λ s k f l o e. cc, (λ s k f l o e. cc, (λ s k f l o e. cc, (λ s k f l o e. cc,
-    (λ s k f l o e. cc, (λ s k f l o e. cc, (λ s k f l o e. cc, (λ s k f l o e. cc,
-    (λ s k f l o e. cc, (λ s k f l o e. cc, (λ s k f l o e. cc, (λ s k f l o e. cc,
-    (λ s k f l o e. cc, (λ s k f l o e. cc, (λ s k f l o e. cc, (λ s k f l o e. cc, tt))))))))))))))))
+others = (
+  λ s k f l o e. cc,
+  (
+    λ s k f l o e. cc,
+    (
+      λ s k f l o e. cc,
+      (
+        λ s k f l o e. cc,
+        (
+          λ s k f l o e. cc,
+          (
+            λ s k f l o e. cc,
+            (
+              λ s k f l o e. cc,
+              (
+                λ s k f l o e. cc,
+                (
+                  λ s k f l o e. cc,
+                  (
+                    λ s k f l o e. cc,
+                    (
+                      λ s k f l o e. cc,
+                      (
+                        λ s k f l o e. cc,
+                        (λ s k f l o e. cc, (λ s k f l o e. cc, (λ s k f l o e. cc, (λ s k f l o e. cc, tt)))),
+                      ),
+                    ),
+                  ),
+                ),
+              ),
+            ),
+          ),
+        ),
+      ),
+    ),
+  ),
+)
 
 -- a call is a REQUEST where its number is 1, and in no other case
 request_one : (s : Seven) (n : ℕ) (kind : Kind) (first last officer : ℕ) → (entry_of n).named s ≡ Some (Request kind first last officer) → n ≡ 1
