@@ -1,3 +1,2 @@
 -- The definitions that the contracts of this crate cite, in reading order.
 pub mod Line
-pub mod Steps

@@ -1,19 +1,16 @@
--- `lines::read_six` meets its contract, by the laws of six bytes. Assumes nothing.
-use Rattle.std.proofs.Common.{◌∙◌}
-use Rattle.lines.proofs.Columns.{loose, marked, narrowed, not_marked, part_six}
+-- `lines::read_six` meets its contract: a number that is read is one of 16 bits. Assumes nothing.
+use Rattle.std.proofs.Common.{◌≡◌, ◌∙◌, ◌+◌, ◌-◌, sym, ap, ℕ, ◌≤◌, ◌<◌, arith, Some, Result, Ok, Err}
+use Rattle.std.specs.Result.{OkIff, result_ok}
+use Rattle.reading.proofs.Reading.{read_most}
 use Rattle.lines.proofs.read_six.Goals as goal
 
-pub returns-then-whole : goal.returns-then-whole
-unfolding loose marked
-returns-then-whole c =
-    let value = rw (c.digit.ensures, c.digit-2.ensures, c.digit-3.ensures, c.digit-4.ensures, c.digit-5.ensures) at c.try_from.ensures in
-    let marks = rw (c.is_mark.ensures, c.is_mark-2.ensures, c.is_mark-3.ensures, c.is_mark-4.ensures, c.is_mark-5.ensures) at c.if-whole.true in
-    let whole = rw (c.digit.ensures, c.digit-2.ensures, c.digit-3.ensures, c.digit-4.ensures, c.digit-5.ensures) at marks in
-    rw (part_six c.args.at c.args.text.now c.requires) (c.ok.ensures.value ∙ narrowed _ _ _ _ _ _ _ value whole)
+-- a number that 16 bits hold is narrowed to itself
+narrowed : {E : Type 0} (r : Result ℕ E) (n : ℕ) → OkIff r (n < 65536) n → n ≤ 65535 → result_ok r ≡ Some n
+narrowed (Ok m) n t small = ap Some t.1
+narrowed (Err e) n t small = absurd (t (omega arith))
 
-pub returns-else-whole : goal.returns-else-whole
-unfolding loose marked
-returns-else-whole c =
-    let marks = rw (c.is_mark.ensures, c.is_mark-2.ensures, c.is_mark-3.ensures, c.is_mark-4.ensures, c.is_mark-5.ensures) at c.if-whole.false in
-    let broken = rw (c.digit.ensures, c.digit-2.ensures, c.digit-3.ensures, c.digit-4.ensures, c.digit-5.ensures) at marks in
-    rw (part_six c.args.at c.args.text.now c.requires) (not_marked _ _ _ _ _ _ broken)
+pub returns : goal.returns
+returns c =
+    let six : c.args.at + 6 - c.args.at ≡ 6 = omega arith in
+    let found = sym c.in_ok-number.ensures in
+    rw (← six) (c.ok.ensures.value ∙ narrowed _ _ c.try_from.ensures (read_most 65535 _ _ found) ∙ sym found)
