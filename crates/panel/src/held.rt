@@ -1,7 +1,7 @@
 // What a register holds, printed in its order: the numbers of the live authorities, then of each train its number,
 // head, rear and authority, then of each gate that is out its number, its paper and the paper that this one replaced.
 use crate::output::{print, print_number, print_row};
-use rules::Register;
+use rules::{PaperNo, Register};
 
 // Prints what the register holds, in its order, a line for each.
 pub fn print_held<R: Print + Eprint>(rt: &R, register: &Register) {
@@ -15,7 +15,7 @@ pub fn print_held<R: Print + Eprint>(rt: &R, register: &Register) {
     }
     print(rt, b"bookings\n");
     for (gate, booking) in (0..).zip(&register.bookings) {
-        if booking.paper.0 != 0 {
+        if booking.paper != PaperNo(0) {
             print_row(rt, [gate, booking.paper.0, booking.replaced.0]);
         }
     }
