@@ -219,6 +219,15 @@ pub struct Register {
     pub trains: ArrayVec<Train, 32>,
 }
 
+impl Register {
+    // The same register once more. A copy takes no memory, so it can't fail.
+    pub fn copied(&self) -> Register
+        ensures { result ≡ self.now }
+    {
+        self.clone().unwrap()
+    }
+}
+
 // What a call answers: the number allotted by an accepted REQUEST, none for any other accepted call, or the refusal.
 pub type Answer = Result<Option<AuthorityNo>, Refusal>;
 
