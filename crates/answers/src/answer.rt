@@ -8,7 +8,7 @@ ghost use Rattle.rules.specs.Refusals.{lowest, request_refusals, withdraw_refusa
 ghost use Rattle.rules.specs.Refusals.{grant_refusals, clear_refusals, reoccupy_refusals, hand_over_refusals};
 ghost use Rattle.rules.specs.Refusals.{fulfil_refusals, continue_refusals, own};
 ghost use Rattle.rules.specs.Answer.{answer_no};
-ghost use Rattle.answers.specs.Held.{held_by};
+ghost use Rattle.answers.specs.Held.{held_by, not_at_stage};
 
 use crate::terms::answer_term;
 use agreements::{answer_agree, answer_join};
@@ -21,17 +21,36 @@ use conditions::{
 use movements::{answer_move, answer_passed};
 use rules::{Authority, AuthorityNo, Call, GateNo, Kind, Refusal, Register, Seven};
 
-// 5, 6 and 7: the live authority with that number, in force or pending as is asked, and the officer's own.
+// A stage that a call asks for.
+#[derive(Clone, Copy, Debug, PartialEq, Eq)]
+enum Stage {
+    Pending,
+    InForce,
+    Either,
+}
+
+// 6: the authority isn't at the stage.
+fn is_not_at_stage(a: Authority, stage: Stage) -> bool
+    ensures { result ≡ not_at_stage stage a }
+{
+    match stage {
+        Stage::Pending => a.in_force,
+        Stage::InForce => !a.in_force,
+        Stage::Either => false,
+    }
+}
+
+// 5, 6 and 7: the live authority with that number, at the stage that is asked for, and the officer's own.
 fn held(
     register: &Register,
     n: AuthorityNo,
-    in_force: bool,
+    stage: Stage,
     officer: u16,
 ) -> Result<Authority, Refusal>
-    ensures { result ≡ held_by (board_of register.now) n.0 in_force officer }
+    ensures { result ≡ held_by (board_of register.now) n.0 stage officer }
 {
     let a = find(&register.authorities, n).ok_or(Refusal::NotLive)?;
-    if a.in_force != in_force {
+    if is_not_at_stage(a, stage) {
         return Err(Refusal::Stage);
     }
     if a.officer != officer {
@@ -52,7 +71,7 @@ fn answer_request(register: &Register) -> Result<(), Refusal>
 fn answer_withdraw(register: &Register, n: AuthorityNo, officer: u16) -> Result<(), Refusal>
     ensures { answer_no result ≡ lowest (withdraw_refusals (board_of register.now) n.0 officer) }
 {
-    held(register, n, false, officer)?;
+    held(register, n, Stage::Pending, officer)?;
     Ok(())
 }
 
@@ -83,7 +102,7 @@ fn answer_unblock(register: &Register, g: GateNo) -> Result<(), Refusal>
 fn answer_grant(register: &Register, s: Seven, n: AuthorityNo, officer: u16) -> Result<(), Refusal>
     ensures { answer_no result ≡ lowest (grant_refusals (board_of register.now) s n.0 officer) }
 {
-    let a = held(register, n, false, officer)?;
+    let a = held(register, n, Stage::Pending, officer)?;
     if is_unprotected(register, a) {
         return Err(Refusal::Unprotected);
     }
@@ -102,7 +121,7 @@ fn answer_grant(register: &Register, s: Seven, n: AuthorityNo, officer: u16) -> 
 fn answer_clear(register: &Register, n: AuthorityNo, officer: u16) -> Result<(), Refusal>
     ensures { answer_no result ≡ lowest (clear_refusals (board_of register.now) n.0 officer) }
 {
-    let a = held(register, n, true, officer)?;
+    let a = held(register, n, Stage::InForce, officer)?;
     if !a.workers_on {
         return Err(Refusal::AlreadySo);
     }
@@ -112,7 +131,7 @@ fn answer_clear(register: &Register, n: AuthorityNo, officer: u16) -> Result<(),
 fn answer_reoccupy(register: &Register, n: AuthorityNo, officer: u16) -> Result<(), Refusal>
     ensures { answer_no result ≡ lowest (reoccupy_refusals (board_of register.now) n.0 officer) }
 {
-    let a = held(register, n, true, officer)?;
+    let a = held(register, n, Stage::InForce, officer)?;
     if a.workers_on {
         return Err(Refusal::AlreadySo);
     }
@@ -122,14 +141,10 @@ fn answer_reoccupy(register: &Register, n: AuthorityNo, officer: u16) -> Result<
     Ok(())
 }
 
-// Kept: 5 and 7 of its own. HAND OVER takes either stage, and `held` asks for one.
 fn answer_hand_over(register: &Register, n: AuthorityNo, out: u16, into: u16) -> Result<(), Refusal>
     ensures { answer_no result ≡ lowest (hand_over_refusals (board_of register.now) n.0 out into) }
 {
-    let a = find(&register.authorities, n).ok_or(Refusal::NotLive)?;
-    if a.officer != out {
-        return Err(Refusal::Officer);
-    }
+    held(register, n, Stage::Either, out)?;
     if out == into {
         return Err(Refusal::AlreadySo);
     }
@@ -144,7 +159,7 @@ fn answer_fulfil(
 ) -> Result<(), Refusal>
     ensures { answer_no result ≡ lowest (fulfil_refusals (board_of register.now) n.0 officer assurances) }
 {
-    let a = held(register, n, true, officer)?;
+    let a = held(register, n, Stage::InForce, officer)?;
     if a.workers_on {
         return Err(Refusal::Site);
     }
