@@ -15,6 +15,7 @@ pub struct Ran {
 }
 
 // The run on a register that is lent: how many calls it made.
+// Kept: `Kept`, here and below, as board's `call` says.
 // Kept: out is cut by an index, and not by a zip with its chunks_exact_mut: a proof knows nothing of what is written
 // through them.
 fn run_lines(register: &mut Register, text: &[u8], out: &mut [u8]) -> usize

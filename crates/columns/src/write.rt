@@ -40,7 +40,8 @@ fn mark_of(rest: u32) -> u8
 }
 
 // Fills the whole slice with a number that fits.
-// Kept: std's `write!(part, "{n:>6}")` takes three times as long (10 million numbers: 0.07 s by hand, 0.21 s by std).
+// Kept: std's `write!(part, "{n:>6}")` takes three times as long (10 million numbers: 0.07 s by hand, 0.21 s by std), and
+// the journal program, which writes two a line, would be slower than before.
 // Kept: an index, and not `iter_mut().rev()`: a proof knows nothing of what is written through an adapter of
 // `iter_mut`.
 #[tactic(auto, using(crate::proofs::Filling::filling))]
@@ -105,6 +106,8 @@ fn line_size(widths: &[u8], numbers: &[u32], room: usize) -> Option<usize>
 
 // Fills the whole slice with the line.
 // Kept: an offset, here and in sheet's `fill_cells`: the widths differ, so that no chunks give the parts.
+// Kept: beside `fill_cells`: one over both would take its step as a closure on a lent part, and each would need a law of
+// its own that says what the closure leaves there.
 fn fill_line(t: &mut [u8], widths: &[u8], numbers: &[u32])
     requires { (all_fit widths.now numbers.now ≡ true) × (length t.old ≡ length (line widths.now numbers.now)) }
     ensures { t.new ≡ line widths.now numbers.now }
@@ -122,6 +125,7 @@ fn fill_line(t: &mut [u8], widths: &[u8], numbers: &[u32])
 // False, and no byte changed, where there are not as many numbers as widths, one does not fit its width, or the
 // buffer is too short.
 // Kept: a bool, and no Option or Result: there is no value and no reason beside it.
+// Kept: widths and numbers apart: the widths are those of every such line, and the numbers this line's.
 pub fn write_line(buf: &mut [u8], widths: &[u8], numbers: &[u32]) -> bool
     ensures { Written widths.now numbers.now buf.old buf.new result }
 {

@@ -18,6 +18,7 @@ fn is_new_paper(paper: u16, certified: u16, new: u16) -> bool
 }
 
 // The value of a field of the call is in the range of its kind.
+// Kept: portions and gates, and no struct of the two: they are two counts of a register, which `take` reads off it.
 #[tactic(auto, unfolding(rules::specs::Call::in_range))]
 fn is_in_range(portions: u16, gates: usize, field: Field, s: Seven, value: u16) -> bool
     ensures { result ≡ in_range portions gates field s value }

@@ -10,6 +10,7 @@ use std::rt::Files;
 use std::{io, str};
 
 // How many bytes were read to the front of a buffer, and why a read failed, where one did.
+// Kept: a count, and no slice of what was read: the buffer stays lent to the caller, who reads the next piece into it.
 #[derive(Clone, Copy)]
 pub struct Filled {
     pub bytes: usize,

@@ -48,6 +48,7 @@ fn run_pieces<'a, F: Read, L: Fn(&[u8]) -> Result<(), Failure<'a>>>(
         on_lines(&out[..LINE_SIZE * lines])?;
         filled.check(b"calls")?;
         if CALL_SIZE * lines != filled.bytes {
+            // Kept: casts, which lose nothing: a count of lines has no `From` into 64 bits.
             return Err(Failure::Malformed {
                 line: PIECE_LINES as u64 * piece + lines as u64 + 1,
             });

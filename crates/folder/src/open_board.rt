@@ -28,6 +28,7 @@ impl Model for Board {
 
 impl Board {
     // The board of a register that is kept, as opening and each call return it.
+    // Kept: `Kept`, here and below at `register`: what the type says of its register, taken and given.
     pub fn new(register: Register) -> Board
         requires { Kept register }
         ensures { result ≡ register }

@@ -13,6 +13,7 @@ pub fn gate_at(gates: &[Gate], g: GateNo) -> Gate
     ensures { result ≡ gate_at gates.now g.0 }
 {
     // Kept: beside bookings' `booking_at`; both are one expression of std, which a generic one would only name again.
+    // Kept: a default and no Option, there too: document 01's conditions ask it, and the definitions give the same.
     gates.get(usize::from(g.0)).copied().unwrap_or_default()
 }
 

@@ -90,6 +90,7 @@ pub fn last_number<R: Files + Print + Eprint>(rt: &R) {
 // back.
 fn sheet_into<R: Print + Eprint>(rt: &R, board: &Board, buffer: &mut [u8]) {
     let (answer, lines) = match board.write_sheet(buffer) {
+        // Kept: a cast, which loses nothing: a page has 33 lines at most.
         Ok(lines) => (0, lines as u16),
         Err(refusal) => (u16::from(refusal), 0),
     };

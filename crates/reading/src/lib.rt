@@ -26,6 +26,7 @@ fn number_from(digits: &[u8], most: u32) -> Option<u32>
             return None;
         }
     }
+    // Kept: a cast, which the check proves to lose nothing: `try_from` would have an error that no number gives.
     Some(number as u32)
 }
 
@@ -55,6 +56,7 @@ fn is_line_feed(text: &[u8]) -> bool
 
 // The N numbers of a text that is a row of columns of the given widths, then a line feed and no more; each is at most
 // `most`. None where the columns are more or fewer than N.
+// Kept: a number's place by its index: of what is written through an adapter of `iter_mut` a proof knows nothing.
 pub fn read_row<const N: usize>(text: &[u8], widths: &[u8], most: u32) -> Option<[u32; N]>
     ensures { result ≡ numbers_in N most widths.now text.now }
 {

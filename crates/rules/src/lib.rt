@@ -14,6 +14,7 @@ pub use refusal::Refusal;
 
 // The four kinds of number that are never taken for one another: those of authorities, of trains, of gates, and of the
 // papers that book a gate out of use.
+// Kept: four structs of one field, as document 01 names the form.
 #[derive(Clone, Copy, Debug, Default, PartialEq, Eq, PartialOrd, Ord)]
 pub struct AuthorityNo(pub u16);
 
@@ -71,9 +72,8 @@ pub struct Form {
 }
 
 // A call with its fields named.
-// Kept: MOVE's 0 for no authority and no officer, and BOOK IN's certified with its new paper beside it, are as they are
-// called: MOVE's are compared with the pilot's, which are 0 where there is none, and the range of the paper is tested by
-// both before.
+// Kept: MOVE's 0 for no authority and no officer, and BOOK IN's certified with its new paper beside it, are the fields as
+// the papers call them, and the definitions speak of each: an Option would be made of them only to be taken apart there.
 #[derive(Clone, Copy, Debug, PartialEq, Eq)]
 pub enum Call {
     Request {
@@ -159,8 +159,9 @@ pub enum Call {
 }
 
 // A gate: traffic goes from one portion to another; 99 is outside the board.
-// Kept: the kind, and below 99 for outside and 0 for none, are numbers: `call` takes a register that holds any, and
-// an enum or an Option would ask more of it.
+// Kept: the kind is a number: `call` takes a register that holds any, and an enum would ask more of it.
+// Kept: 99 here and in a train, and 0 below for no authority, paper or term: an enum or an Option would give each of them
+// a second spelling, as `Some(0)` beside `None`, and the definitions, which compare with the papers' numbers, two cases.
 #[derive(Clone, Copy, Debug, Default, PartialEq, Eq)]
 pub struct Gate {
     pub from: u16,
@@ -232,6 +233,7 @@ impl Register {
 pub type Answer = Result<Option<AuthorityNo>, Refusal>;
 
 // What opening returns: the register, the closed board's where the plan is refused.
+// Kept: beside `Called`: document 01 has a result of opening and one of a call, and each has a contract of its own.
 #[derive(Clone, Drop)]
 pub struct Opened {
     pub register: Register,

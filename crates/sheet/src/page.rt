@@ -22,8 +22,7 @@ const WIDTHS: [usize; 9] = [8, 7, 8, 8, 8, 8, 8, 9, 8];
 const TOTAL_WIDTHS: [usize; 3] = [9, 9, 54];
 
 // Fills the whole slice with a line of cells that fit their columns.
-// Kept: beside columns' `fill_line`: one over both would take its step as a closure on a lent part, and each would need
-// a law of its own that says what the closure leaves there.
+// Kept: as columns' `fill_line`.
 fn fill_cells<const N: usize>(line: &mut [u8], widths: &[usize; N], cells: &[Cell; N])
     requires { (length line.old ≡ length (cell_line widths.now cells.now)) × (cells_fit widths.now cells.now ≡ true) }
     ensures { line.new ≡ cell_line widths.now cells.now }
@@ -37,6 +36,7 @@ fn fill_cells<const N: usize>(line: &mut [u8], widths: &[usize; N], cells: &[Cel
 }
 
 // Writes the lines of the live authorities to the front of the buffer; later bytes stay.
+// Kept: a line's place by its index, as in calls' `run_lines`; `Kept`, as board's `call` says.
 fn write_authorities(register: &Register, page: &mut [u8])
     requires { Kept register.now × (2409 ≤ length page.old) }
     ensures { let r = register.now in
@@ -56,6 +56,7 @@ fn write_authorities(register: &Register, page: &mut [u8])
 
 // Writes the sheet of a register to the front of the buffer, and gives the number of lines; later bytes stay. A buffer
 // that is shorter than a page is refused and stays as it was.
+// Kept: `Kept`, as board's `call` says.
 pub fn write_sheet(register: &Register, page: &mut [u8]) -> Result<usize, Refusal>
     requires { Kept register.now }
     ensures { SheetPost register.now page.old (answer_no result) (lines_no result) page.new }

@@ -4,6 +4,8 @@
 ghost use Rattle.std.specs.Prelude.{◌≡◌, ◌&&◌};
 ghost use Rattle.rules.specs.Call.{is_day, is_time, minute_of};
 
+// Kept: day and time, here and below, and no struct of the two: they are two of a call's seven numbers and of TERM's
+// four, and a struct would be made of two fields only to be taken apart.
 // Day is 0 to 9999.
 pub fn is_day(day: u16) -> bool
     ensures { result ≡ is_day day }

@@ -33,6 +33,7 @@ fn allow(register: &Register, s: Seven) -> Result<Call, Refusal>
 }
 
 // A call that has room for its line. One that is refused leaves the register as it was.
+// Kept: `Kept`, as board's `call` says.
 pub fn take(register: &mut Register, s: Seven) -> Answer
     requires { Kept register.old }
     ensures { TakePost register.old s register.new result }
