@@ -77,9 +77,9 @@ fn write_journal(line: &mut [u8], s: Seven, answer: Answer)
 }
 
 // Takes one call: any seven numbers, any buffer for its line. A buffer under 55 bytes gives 1 and stays as it was.
-// Kept: `requires { Kept register }`, as the architecture has it of each entry: here and in take, calls and sheet. An invariant of
-// Register would be asked of the effects too, which promise theirs for any register, also where the call would be
-// refused.
+// Kept: `requires { Kept register }`, as the architecture has it of each entry: here and in take, calls and sheet. An
+// invariant of Register would be asked of the effects too, which promise theirs for any register, also where the call
+// would be refused.
 pub fn call(mut register: Register, seven: Seven, line: &mut [u8]) -> Called
     requires { Kept register }
     ensures { CallPost register seven line.old result line.new }

@@ -40,8 +40,8 @@ fn mark_of(rest: u32) -> u8
 }
 
 // Fills the whole slice with a number that fits.
-// Kept: std's `write!(part, "{n:>6}")` takes three times as long (10 million numbers: 0.07 s by hand, 0.21 s by std), and
-// the journal program, which writes two a line, would be slower than before.
+// Kept: std's `write!(part, "{n:>6}")` takes three times as long (10 million numbers: 0.07 s by hand, 0.21 s by std),
+// and the journal program, which writes two a line, would be slower than before.
 // Kept: an index, and not `iter_mut().rev()`: a proof knows nothing of what is written through an adapter of
 // `iter_mut`.
 #[tactic(auto, using(crate::proofs::Filling::filling))]
@@ -106,8 +106,8 @@ fn line_size(widths: &[u8], numbers: &[u32], room: usize) -> Option<usize>
 
 // Fills the whole slice with the line.
 // Kept: an offset, here and in sheet's `fill_cells`: the widths differ, so that no chunks give the parts.
-// Kept: beside `fill_cells`: one over both would take its step as a closure on a lent part, and each would need a law of
-// its own that says what the closure leaves there.
+// Kept: beside `fill_cells`: one over both would take its step as a closure on a lent part, and each would need a law
+// of its own that says what the closure leaves there.
 fn fill_line(t: &mut [u8], widths: &[u8], numbers: &[u32])
     requires { (all_fit widths.now numbers.now ≡ true) × (length t.old ≡ length (line widths.now numbers.now)) }
     ensures { t.new ≡ line widths.now numbers.now }

@@ -60,8 +60,8 @@ fn run_pieces<'a, F: Read, L: Fn(&[u8]) -> Result<(), Failure<'a>>>(
     Err(Failure::Endless)
 }
 
-// Room for so many bytes of a piece: a function of its own, whose `ensures` gives the length. Where the caller makes the
-// array, the proof of its length as a slice computes so many elements that it breaks off.
+// Room for so many bytes of a piece: a function of its own, whose `ensures` gives the length. Where the caller makes
+// the array, the proof of its length as a slice computes so many elements that it breaks off.
 fn room<const N: usize>() -> [u8; N]
     ensures { N ≡ length result }
 {

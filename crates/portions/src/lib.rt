@@ -73,8 +73,8 @@ pub fn size(set: u64) -> u32
 }
 
 // The least member of the set, 64 where it has none.
-// Kept: 64 here and below, and no Option: it is what the machine counts, and the sheet, which alone asks, has no sign for
-// none: an authority's limits have a member.
+// Kept: 64 here and below, and no Option: it is what the machine counts, and the sheet, which alone asks, has no sign
+// for none: an authority's limits have a member.
 #[tactic(auto, using(crate::proofs::Ends::least_zeros))]
 pub fn least(set: u64) -> u32
     ensures { result ≡ Sets.least set }

@@ -72,8 +72,9 @@ pub struct Form {
 }
 
 // A call with its fields named.
-// Kept: MOVE's 0 for no authority and no officer, and BOOK IN's certified with its new paper beside it, are the fields as
-// the papers call them, and the definitions speak of each: an Option would be made of them only to be taken apart there.
+// Kept: MOVE's 0 for no authority and no officer, and BOOK IN's certified with its new paper beside it, are the fields
+// as the papers call them, and the definitions speak of each: an Option would be made of them only to be taken apart
+// there.
 #[derive(Clone, Copy, Debug, PartialEq, Eq)]
 pub enum Call {
     Request {
@@ -160,8 +161,9 @@ pub enum Call {
 
 // A gate: traffic goes from one portion to another; 99 is outside the board.
 // Kept: the kind is a number: `call` takes a register that holds any, and an enum would ask more of it.
-// Kept: 99 here and in a train, and 0 below for no authority, paper or term: an enum or an Option would give each of them
-// a second spelling, as `Some(0)` beside `None`, and the definitions, which compare with the papers' numbers, two cases.
+// Kept: 99 here and in a train, and 0 below for no authority, paper or term: an enum or an Option would give each of
+// them a second spelling, as `Some(0)` beside `None`, and the definitions, which compare with the papers' numbers, two
+// cases.
 #[derive(Clone, Copy, Debug, Default, PartialEq, Eq)]
 pub struct Gate {
     pub from: u16,
