@@ -1,21 +1,21 @@
--- A call line: seven columns of six, one after the other, and the line feed. Assumes nothing.
-use mathlib.Core.Path.{◌≡◌, refl, ap}
+-- A call line: the numbers of its row, seven columns of six and the line feed. Assumes nothing.
+use mathlib.Core.Path.{◌≡◌, refl, ap, ◌∙◌}
 use mathlib.Core.Logic.{inl, inr}
-use mathlib.Core.Bool.{true, cond, false≢true, and-true}
-use mathlib.Core.List.{List, [], ◌∷◌, ◌++◌, append_assoc, append-nil}
-use Prim.Native.Nat.{ℕ, zero, suc, ◌+◌, ◌*◌, ◌≤◌}
+use mathlib.Core.Bool.{Bool, true, false, cond, false≢true, and-true}
+use mathlib.Core.List.{List, [], ◌∷◌}
+use Prim.Native.Nat.{ℕ, zero, suc, ◌+◌, ◌≤◌}
 use native.Mathlib.Omega.{arith}
-use lib.Dec.{eqb}
+use borrow.Author.Tests.{le-leb, leb-true}
+use lib.Dec.{eqb, leb}
 use lib.ListN.{length, take, drop, get_or, replicate, length-drop, drop_of_length-le}
 use lib.Seq.{drop-cons, drop-drop}
 use Rattle.std.specs.Prelude.{Option, Some, None}
-use Rattle.std.proofs.lemmas.Bool.Decides.{nat_tests}
-use Rattle.lists.proofs.Tests.{truth, lt_or_le}
+use Rattle.lists.proofs.Tests.{truth, lt_or_le, and_l, and_r}
 use Rattle.columns.specs.Line.{line}
-use Rattle.reading.specs.Reading.{same_text, read_column, first_column, Row, with_column, row_of}
+use Rattle.reading.specs.Reading.{same_text, read_column, first_column, Row, with_column, row_of, row_in, numbers_in}
 use Rattle.columns.proofs.Writing.{total}
-use Rattle.reading.proofs.Rows.{first_part, first_short, line_read, ended}
-use Rattle.rules.specs.declared.Seven.{Seven}
+use Rattle.reading.proofs.Scan.{unread}
+use Rattle.reading.proofs.Rows.{at_most, first_part, first_short, line_read, ended, numbers_asked}
 use Rattle.lines.specs.Line.{call_widths, seven_of, line_in}
 
 -- ---- a whole row is as long as its columns and the line feed
@@ -61,51 +61,65 @@ row_from_lem {s} l none = rw (drop-cons s 42 0 (omega (arith, l)), drop_of_lengt
 row_from_lem {s} {at} l (next e r) =
     rw (first_part 65535 6 (drop at s) (omega (arith, length-drop at s, before_end r, l)), e, drop-drop 6 at s, row_from_lem l r)
 
--- ---- a line's columns, read one after the other up to the first that holds no number
+-- ---- a line, by the numbers of its row
+get_most : (most i : ℕ) (ns : List ℕ) → at_most most ns ≡ true → get_or ns i 0 ≤ most
+unfolding at_most
+get_most most i [] h = omega arith
+get_most most zero (n ∷ ns) h = leb-true n most (and_l (leb n most) (at_most most ns) h)
+get_most most (suc i) (n ∷ ns) h = get_most most i ns (and_r (leb n most) (at_most most ns) h)
+
+-- a number in 16 bits, where it is one of them
+abbrev pub narrow : ℕ → Option ℕ
+narrow n = cond (leb n 65535) (Some n) None
+
 module _ (s : List ℕ) where
-  abbrev pub column_at : ℕ → Option ℕ
-  column_at at = read_column 65535 (take 6 (drop at s))
+  abbrev row : Row
+  row = row_of 65535 call_widths s
 
-  -- what is made of a column's number
-  abbrev pub read_on : Option ℕ → (ℕ → Option Seven) → Option Seven
-  read_on None more = None
-  read_on (Some n) more = more n
+  asked : numbers_in 7 65535 call_widths s ≡ row_in 65535 call_widths s
+  asked = numbers_asked 7 65535 call_widths s refl
 
-  -- the numbers ns are read, and so many columns are left, the first of them at `at`; then the line feed is due
-  unfoldable line_from : ℕ → ℕ → List ℕ → Option Seven
-  line_from zero at ns = cond (eqb (get_or s 42 0) 10) (Some (seven_of ns)) None
-  line_from (suc left) at ns = read_on (column_at at) (λ n. line_from left (at + 6) (ns ++ (n ∷ [])))
+  -- no numbers: no call
+  pub line_none : None ≡ numbers_in 7 65535 call_widths s → None ≡ line_in s
+  unfolding row_in line_in
+  line_none h = go row.whole (h ∙ asked)
+    where
+      go : (t : Bool) → None ≡ cond t (Some row.numbers) None → None ≡ cond t (Some (seven_of row.numbers)) None
+      go true q = cc
+      go false q = refl
 
-  -- the answer, where row stands behind these numbers
-  abbrev answer : List ℕ → Row → Option Seven
-  answer ns row = cond row.whole (Some (seven_of (ns ++ row.numbers))) None
-
-  module _ (l : length s ≡ 43) where
-    line_from-is : (left at : ℕ) (ns : List ℕ) → at + 6 * left ≡ 42 → answer ns (row_of 65535 (replicate left 6) (drop at s)) ≡ line_from left at ns
-    unfolding row_of line_from same_text
-    line_from-is zero at ns e =
-        let z : at ≡ 42 = omega arith in
-        rw (z, drop-cons s 42 0 (omega (arith, l)), drop_of_length-le s {i = 43} (omega (arith, l)), and-true, append-nil)
-    line_from-is (suc left) at ns e =
-        go (column_at at) (first_part 65535 6 (drop at s) (omega (arith, length-drop at s, l)))
-        (λ n. line_from-is left (at + 6) (ns ++ (n ∷ [])) (omega arith))
+  module _ (ns : List ℕ) (read : Some ns ≡ numbers_in 7 65535 call_widths s) where
+    of_row : (row.whole ≡ true) × (ns ≡ row.numbers)
+    unfolding row_in
+    of_row = go row.whole refl (read ∙ asked)
       where
-        row : Row
-        row = row_of 65535 (replicate left 6) (drop (at + 6) s)
+        go : (t : Bool) → row.whole ≡ t → Some ns ≡ cond t (Some row.numbers) None → (row.whole ≡ true) × (ns ≡ row.numbers)
+        go true e q = (e, cc)
+        go false e q = cc
 
-        go : (c : Option ℕ) → first_column 65535 6 (drop at s) ≡ c
-            → ((n : ℕ) → answer (ns ++ (n ∷ [])) row ≡ line_from left (at + 6) (ns ++ (n ∷ [])))
-            → answer ns (with_column (first_column 65535 6 (drop at s)) (row_of 65535 (replicate left 6) (drop 6 (drop at s))))
-            ≡ read_on c (λ n. line_from left (at + 6) (ns ++ (n ∷ [])))
-        go None p more = rw p
-        go (Some n) p more = rw (p, drop-drop 6 at s, ← append_assoc ns (n ∷ []) row.numbers) (more n)
+    -- each is in 16 bits
+    narrowed : (i : ℕ) → narrow (get_or ns i 0) ≡ Some (get_or ns i 0)
+    narrowed i =
+        let small = get_most 65535 i row.numbers (line_read 65535 call_widths s of_row.0).small in
+        rw (le-leb (get_or ns i 0) 65535 (rw of_row.1 small))
 
-    -- the whole line
-    pub line_is : line_in s ≡ read_on (column_at 0) (λ day. read_on (column_at 6) (λ time. read_on (column_at 12) (λ call.
-        read_on (column_at 18) (λ a. read_on (column_at 24) (λ b. read_on (column_at 30) (λ c. read_on (column_at 36) (λ d.
-        cond (eqb (get_or s 42 0) 10) (Some (seven_of (day ∷ time ∷ call ∷ a ∷ b ∷ c ∷ d ∷ []))) None)))))))
-    unfolding line_in line_from
-    line_is = line_from-is 7 0 [] refl
+    pub narrowed_none : (i : ℕ) → None ≡ narrow (get_or ns i 0) → None ≡ line_in s
+    narrowed_none i e = unread (e ∙ narrowed i)
+
+    -- and the seven are the call's
+    line_some : Some (seven_of ns) ≡ line_in s
+    unfolding line_in
+    line_some = rw (of_row.0, of_row.1)
+
+    pub line_seven : (day time call a b c d : ℕ) → Some day ≡ narrow (get_or ns 0 0) → Some time ≡ narrow (get_or ns 1 0)
+        → Some call ≡ narrow (get_or ns 2 0) → Some a ≡ narrow (get_or ns 3 0) → Some b ≡ narrow (get_or ns 4 0)
+        → Some c ≡ narrow (get_or ns 5 0) → Some d ≡ narrow (get_or ns 6 0)
+        → Some (seven_of (day ∷ time ∷ call ∷ a ∷ b ∷ c ∷ d ∷ [])) ≡ line_in s
+    line_seven day time call a b c d e0 e1 e2 e3 e4 e5 e6 =
+        rw (same 0 day e0, same 1 time e1, same 2 call e2, same 3 a e3, same 4 b e4, same 5 c e5, same 6 d e6) line_some
+      where
+        same : (i m : ℕ) → Some m ≡ narrow (get_or ns i 0) → m ≡ get_or ns i 0
+        same i m e = cc (e ∙ narrowed i)
 
 -- what the function that reads a line is proved by
-pub ruleset of_a_line = (line_other, line_is, nat_tests)
+pub ruleset of_a_line = (line_none, narrowed_none, line_seven)
