@@ -68,7 +68,7 @@ get_most most i [] h = omega arith
 get_most most zero (n ∷ ns) h = leb-true n most (and_l (leb n most) (at_most most ns) h)
 get_most most (suc i) (n ∷ ns) h = get_most most i ns (and_r (leb n most) (at_most most ns) h)
 
--- a number in 16 bits, where it is one of them
+-- the number, where 16 bits hold it
 abbrev pub narrow : ℕ → Option ℕ
 narrow n = cond (leb n 65535) (Some n) None
 
@@ -120,6 +120,3 @@ module _ (s : List ℕ) where
       where
         same : (i m : ℕ) → Some m ≡ narrow (get_or ns i 0) → m ≡ get_or ns i 0
         same i m e = cc (e ∙ narrowed i)
-
--- what the function that reads a line is proved by
-pub ruleset of_a_line = (line_none, narrowed_none, line_seven)

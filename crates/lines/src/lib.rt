@@ -14,7 +14,7 @@ fn narrow(number: u32) -> Option<u16>
 }
 
 // The call on a line: a text of 43 bytes, and any other is malformed.
-#[tactic(auto, using(crate::proofs::Rows::of_a_line))]
+#[tactic(auto, using(crate::proofs::Rows::line_none, crate::proofs::Rows::narrowed_none))]
 pub fn read_line(text: &[u8]) -> Option<Seven>
     ensures { result ≡ line_in text.now }
 {
