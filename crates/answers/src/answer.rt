@@ -10,14 +10,14 @@ ghost use Rattle.rules.specs.Refusals.{fulfil_refusals, continue_refusals, own};
 ghost use Rattle.rules.specs.Answer.{answer_no};
 ghost use Rattle.answers.specs.Held.{held_by, not_at_stage};
 
-use crate::terms::answer_term;
-use agreements::{answer_agree, answer_join};
-use authorities::find;
-use bookings::{answer_book_in, answer_book_out, can_be_blocked};
-use conditions::{
+use crate::agreements::{answer_agree, answer_join};
+use crate::conditions::{
     is_full, is_occupied, is_occupied_beside, is_outside_term, is_overlapping, is_still_needed,
     is_unprotected,
 };
+use crate::terms::answer_term;
+use authorities::find;
+use gates::{answer_book_in, answer_book_out, can_be_blocked};
 use movements::{answer_move, answer_passed};
 use rules::{Authority, AuthorityNo, Call, GateNo, Kind, Refusal, Register, Seven};
 
@@ -78,7 +78,7 @@ fn answer_withdraw(register: &Register, n: AuthorityNo, officer: u16) -> Result<
 fn answer_block(register: &Register, g: GateNo) -> Result<(), Refusal>
     ensures { answer_no result ≡ lowest (block_refusals (board_of register.now) g.0) }
 {
-    if portions::has(register.blocks, g.0) {
+    if sets::has(register.blocks, g.0) {
         return Err(Refusal::AlreadySo);
     }
     if !can_be_blocked(register, g) {
@@ -90,7 +90,7 @@ fn answer_block(register: &Register, g: GateNo) -> Result<(), Refusal>
 fn answer_unblock(register: &Register, g: GateNo) -> Result<(), Refusal>
     ensures { answer_no result ≡ lowest (unblock_refusals (board_of register.now) g.0) }
 {
-    if !portions::has(register.blocks, g.0) {
+    if !sets::has(register.blocks, g.0) {
         return Err(Refusal::AlreadySo);
     }
     if is_still_needed(register, g) {

@@ -5,8 +5,8 @@ ghost use Rattle.rules.specs.Call.{minute_of};
 ghost use Rattle.rules.specs.Refusals.{lowest, term_refusals};
 ghost use Rattle.rules.specs.Answer.{answer_no};
 
+use crate::conditions::is_too_soon;
 use authorities::find;
-use conditions::is_too_soon;
 use rules::{AuthorityNo, Kind, Refusal, Register, Seven};
 use stamps::minute_of;
 

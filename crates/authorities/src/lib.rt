@@ -27,7 +27,7 @@ pub fn in_force_at<F: Fn(Kind) -> bool>(
     ensures { FindsInForce (F.post is_kind) p authorities.now result }
 {
     authorities.iter().copied().find(|a| {
-        a.in_force && is_kind(a.kind) && portions::has(a.limits, p)
+        a.in_force && is_kind(a.kind) && sets::has(a.limits, p)
     })
 }
 
@@ -57,6 +57,6 @@ fn is_clashing(old: AuthorityNo, a: Authority, x: Authority) -> bool
     x.in_force
         && x.number != a.number
         && x.number != old
-        && portions::overlap(a.limits, x.limits)
+        && sets::overlap(a.limits, x.limits)
         && !(matches!(a.kind, Kind::Twa | Kind::Toa) && x.number == a.agreed)
 }

@@ -16,7 +16,7 @@ use Rattle.rules.specs.Refusals.{lowest, conditions, answer}
 use Rattle.rules.specs.Journal.{journal_line}
 use Rattle.rules.specs.Step.{Kept, after, allotted, CallPost}
 use Rattle.rules.proofs.Answers.{refused_same, refused_none, short_answer, short_line, long_line}
-use Rattle.take.specs.Taking.{with_room, TakePost}
+use Rattle.board.specs.Taking.{with_room, TakePost}
 
 -- ---- a buffer long enough is as good as one of 55 bytes
 

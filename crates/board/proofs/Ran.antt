@@ -14,7 +14,7 @@ use Rattle.lists.specs.Distinct.{Distinct}
 use Rattle.lists.specs.Order.{Ascending}
 use Rattle.std.proofs.lemmas.Bool.{or_from}
 use Rattle.lists.proofs.Search.{Member}
-use Rattle.portions.specs.Sets.{has}
+use Rattle.sets.specs.Sets.{has}
 use Rattle.rules.specs.declared.GateNo.{GateNo}
 use Rattle.rules.specs.declared.PaperNo.{PaperNo}
 use Rattle.rules.specs.declared.Authority.{Authority}

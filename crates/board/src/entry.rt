@@ -90,7 +90,7 @@ pub fn call(mut register: Register, seven: Seven, line: &mut [u8]) -> Called
             answer: Err(Refusal::ShortLine),
         };
     }
-    let answer = take::take(&mut register, seven);
+    let answer = crate::taking::take(&mut register, seven);
     write_journal(line, seven, answer);
     Called { register, answer }
 }

@@ -2,5 +2,7 @@
 #![tactic(auto)]
 
 mod entry;
+mod taking;
 
 pub use entry::{call, open};
+pub use taking::take;

@@ -6,7 +6,7 @@ use lib.ListN.{length, take, drop}
 use Rattle.rules.specs.declared.Seven.{Seven}
 use Rattle.rules.specs.declared.Register.{Register}
 use Rattle.std.specs.Prelude.{Option, Some, None}
-use Rattle.lines.specs.Line.{line_in}
+use Rattle.calls.specs.Line.{line_in}
 use Rattle.calls.specs.Lines.{unless_malformed, calls_in}
 use Rattle.calls.specs.Run.{run_of, RunPost}
 

@@ -10,7 +10,7 @@ use borrow.Author.Tests.{leb-true}
 use Rattle.std.proofs.lemmas.Bool.{cond_both}
 use Rattle.lists.proofs.Tests.{and_l, and_r}
 use Rattle.lists.proofs.Search.{Each}
-use Rattle.reading.proofs.Rows.{at_most}
+use Rattle.columns.proofs.Rows.{at_most}
 use Rattle.rules.specs.declared.Seven.{Seven}
 use Rattle.rules.specs.Board.{Board}
 use Rattle.rules.specs.Refusals.{answer}
@@ -19,10 +19,10 @@ use Rattle.rules.proofs.Answers.{answer_most}
 use Rattle.rules.proofs.Once.{once_after}
 use Rattle.rules.proofs.Lines.{Small, line_55}
 use Rattle.std.specs.Prelude.{Option, Some, None}
-use Rattle.lines.specs.Line.{line_in}
+use Rattle.calls.specs.Line.{line_in}
 use Rattle.calls.specs.Lines.{unless_malformed, calls_in}
 use Rattle.calls.specs.Run.{journal, run_of}
-use Rattle.lines.proofs.Texts.{numbers_of, call_line}
+use Rattle.calls.proofs.Texts.{numbers_of, call_line}
 use Rattle.calls.proofs.Parts.{line_on}
 
 -- ---- a journal line

@@ -3,9 +3,9 @@ ghost use Rattle.rules.specs.Step.{Kept};
 ghost use Rattle.calls.specs.Run.{RunPost};
 
 use crate::journal::write_journal;
-use lines::read_line;
+use crate::lines::read_line;
+use board::take;
 use rules::Register;
-use take::take;
 
 // The register after a run, and how many calls it made.
 #[derive(Clone, Drop)]

@@ -3,3 +3,9 @@ pub mod Digits
 pub mod Writing
 mod Filling
 pub mod Examples
+pub mod Scan
+pub mod Texts
+pub mod ReadingLaws
+pub mod Rows
+pub mod Lines
+pub mod CellsLaws

@@ -3,3 +3,5 @@ pub mod Column
 pub mod Line
 pub mod Steps
 pub mod Text
+pub mod Reading
+pub mod Cells

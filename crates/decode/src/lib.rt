@@ -1,9 +1,11 @@
 // Reading a call off its seven numbers: its number is matched over 1 to 17 and the range beyond; its fields are then
-// matched by kind (crate fields).
+// matched by kind (module fields).
 #![tactic(auto)]
 
 ghost use Rattle.std.specs.Prelude.{◌≡◌};
 ghost use Rattle.rules.specs.Call.{kind_of, entry_of, named, decoded};
+
+mod fields;
 
 use fields::is_in_form;
 use rules::{AuthorityNo, Call, Field, Form, GateNo, Kind, PaperNo, Refusal, Seven, TrainNo};

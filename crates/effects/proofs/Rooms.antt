@@ -6,7 +6,7 @@ use Rattle.rules.specs.declared.Call.{Call}
 use Rattle.rules.specs.declared.Call.TheVariants.{Request, Withdraw, Agree, Block, Unblock, Grant, Clear, Reoccupy, HandOver, Fulfil, Continue, Move, Passed, Term, Join, BookOut, BookIn}
 use Rattle.rules.specs.Board.{Board}
 use Rattle.rules.specs.Refusals.{Refusal, ◌when◌, lowest, full, no_room, own}
-use Rattle.changes.specs.Room.{HasPlace}
+use Rattle.effects.specs.Room.{HasPlace}
 use Rattle.effects.specs.Room.{RoomFor}
 
 -- the first condition of a call that is not refused does not hold

@@ -1,2 +1,3 @@
 -- What the contracts of this crate cite beside the rules.
+pub mod Amending
 pub mod Room

@@ -4,7 +4,11 @@ use Rattle.rules.specs.declared.Train.{Train}
 use Rattle.rules.specs.declared.Call.{Call}
 use Rattle.rules.specs.declared.Call.TheVariants.{Request, Withdraw, Agree, Block, Unblock, Grant, Clear, Reoccupy, HandOver, Fulfil, Continue, Move, Passed, Term, Join, BookOut, BookIn}
 use Rattle.rules.specs.Board.{Board, is_outside, gate_at, train_no}
-use Rattle.changes.specs.Room.{HasPlace}
+
+-- a REQUEST: a place for one more authority, and a number for it
+pub record HasPlace (b : Board) : Type 0 where
+  pub place : length b.authorities < 32
+  pub number : b.last < 9999
 
 -- a gate from outside has room for one more train behind it
 pub record HasRoom (b : Board) (g : ℕ) : Type 0 where

@@ -4,15 +4,15 @@ ghost use Rattle.rules.specs.Board.{board_of};
 ghost use Rattle.rules.specs.Effects.{effect};
 ghost use Rattle.effects.specs.Room.{RoomFor};
 
-use crate::running::{continue_as, fulfil, move_train, passed};
-use changes::{
+use crate::changes::{
     block, book_in, book_out, grant, hand_over, request, set_agreed, set_site, term, unblock,
     withdraw,
 };
+use crate::running::{continue_as, fulfil, move_train, passed};
 use rules::{Call, Register};
 
 // Does what the accepted call does, but for its stamp.
-#[tactic(auto, using(changes::proofs::Changing::clears, changes::proofs::Changing::reoccupies, changes::proofs::Changing::agrees, changes::proofs::Changing::joins))]
+#[tactic(auto, using(crate::proofs::Changing::clears, crate::proofs::Changing::reoccupies, crate::proofs::Changing::agrees, crate::proofs::Changing::joins))]
 pub fn effect_of(register: &mut Register, c: Call)
     requires { RoomFor (board_of register.old) c }
     ensures { board_of register.new ≡ effect (board_of register.old) (Some c) }

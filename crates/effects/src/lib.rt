@@ -1,6 +1,7 @@
 // What an accepted call does to the register.
 #![tactic(auto)]
 
+mod changes;
 mod effect;
 mod running;
 

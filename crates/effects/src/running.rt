@@ -3,14 +3,14 @@ ghost use Rattle.std.specs.Prelude.{◌≡◌, ◌<◌, ℕ, Some, cond, find, l
 ghost use Rattle.lists.specs.Order.{insert_by};
 ghost use Rattle.rules.specs.declared.Call.TheVariants as Call;
 ghost use Rattle.std.specs.Option.{unwrap_or};
-ghost use Rattle.portions.specs.Sets.{has};
+ghost use Rattle.sets.specs.Sets.{has};
 ghost use Rattle.rules.specs.Board.{board_of, is_authority, is_train, no_authority, no_train, train_no};
 ghost use Rattle.rules.specs.Call.{authority_of};
 ghost use Rattle.rules.specs.Effects.{effect};
 ghost use Rattle.effects.specs.Room.{HasRoom, is_above};
 
+use crate::changes::{end_authority, put_in_force};
 use arrayvec::ArrayVec;
-use changes::{end_authority, put_in_force};
 use lists::change;
 use rules::{AuthorityNo, GateNo, Register, Train, TrainNo};
 
@@ -33,7 +33,7 @@ pub fn fulfil(register: &mut Register, n: AuthorityNo)
 fn authority_after(head: u16, new: AuthorityNo, limits: u64) -> AuthorityNo
     ensures { result ≡ cond (has head limits) new (authority_of 0) }
 {
-    if portions::has(limits, head) {
+    if sets::has(limits, head) {
         new
     } else {
         AuthorityNo(0)

@@ -11,8 +11,8 @@ use lib.ListN.{length}
 use Rattle.std.proofs.lemmas.Bool.{and_from}
 use Rattle.lists.proofs.Tests.{same_test, and_l, and_r}
 use Rattle.lists.proofs.Search.{some_below, below_some}
-use Rattle.portions.specs.Sets.{has, subset, in_first_only}
-use Rattle.portions.proofs.Laws.{has-set_of, set_of_start, set_of_next_in, set_of_next_out}
+use Rattle.sets.specs.Sets.{has, subset, in_first_only}
+use Rattle.sets.proofs.Laws.{has-set_of, set_of_start, set_of_next_in, set_of_next_out}
 use Rattle.rules.specs.declared.Gate.{Gate}
 use Rattle.rules.specs.declared.Authority.{Authority}
 use Rattle.rules.specs.Board.{Board, needs, gate_at}

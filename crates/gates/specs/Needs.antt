@@ -1,6 +1,6 @@
 -- The gates that limits need, as a set of gates. Assumes nothing.
 use Rattle.std.specs.Prelude.{ℕ, Bool, List, length}
-use Rattle.portions.specs.Sets.{set_of}
+use Rattle.sets.specs.Sets.{set_of}
 use Rattle.rules.specs.declared.Gate.{Gate}
 use Rattle.rules.specs.Board.{needs, gate_at}
 

@@ -1,11 +1,14 @@
-// The gates of a plan: the gate with a number, and the gates that limits need.
+// The gates of a plan: the gate with a number, the gates that limits need, and gates booked out of use.
 #![tactic(auto)]
 
 ghost use Rattle.std.specs.Prelude.{◌≡◌, ◌≤◌, length};
 ghost use Rattle.rules.specs.Board.{gate_at, needs};
 ghost use Rattle.gates.specs.Needs.{needed_of};
 
+mod bookings;
+
 use arrayvec::ArrayVec;
+pub use bookings::{answer_book_in, answer_book_out, can_be_blocked};
 use rules::{Gate, GateNo};
 
 // The gate with that number; past those of the plan stands none, a gate from 0 to 0.
@@ -22,7 +25,7 @@ pub fn gate_at(gates: &[Gate], g: GateNo) -> Gate
 pub fn is_needed(limits: u64, gate: Gate) -> bool
     ensures { result ≡ needs limits gate }
 {
-    portions::has(limits, gate.to) && !portions::has(limits, gate.from)
+    sets::has(limits, gate.to) && !sets::has(limits, gate.from)
 }
 
 // The set of the gates that lead into the limits.
@@ -35,7 +38,7 @@ pub fn needed(gates: &ArrayVec<Gate, 64>, limits: u64) -> u64
     for (i, gate) in gates.iter().enumerate() {
         if is_needed(limits, *gate) {
             // Kept: `try_from` can't fail here, so its error has no value; `(0u16..).zip(gates)` needs answers by hand.
-            set = portions::with(set, i as u16);
+            set = sets::with(set, i as u16);
         }
     }
     set

@@ -7,7 +7,7 @@ use mathlib.Core.List.{List}
 use Rattle.std.specs.Prelude.{Option, Some, None, find, is_some, eqb}
 use Rattle.std.specs.Option.{option_or, unwrap_or}
 use Rattle.lists.specs.Search.{any}
-use Rattle.portions.specs.Sets.{has}
+use Rattle.sets.specs.Sets.{has}
 use Rattle.rules.specs.declared.Authority.{Authority}
 use Rattle.rules.specs.Board.{Board, no_authority, authority_no}
 use Rattle.rules.specs.Refusals.{is_e, is_w, any_e, any_w, is_other_at, taken, worked_on, barred, pilot, not_piloted}

@@ -74,7 +74,7 @@ pub fn answer_move(
     if is_not_there(register, t, gate) {
         return Err(Refusal::NoTrain);
     }
-    if portions::has(register.blocks, g.0) & e.is_none() & w.is_none() {
+    if sets::has(register.blocks, g.0) & e.is_none() & w.is_none() {
         return Err(Refusal::Blocked);
     }
     let pilot = pilot_of(e, w);

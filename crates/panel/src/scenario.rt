@@ -1,7 +1,7 @@
 // One scenario: a board opened from a plan's file, and the calls of a second file put to it one by one.
 use crate::output::{print, print_number, read};
+use calls::read_line;
 use folder::{Board, PLAN_SIZE};
-use lines::read_line;
 use rules::{Refusal, Seven};
 use std::rt::Files;
 

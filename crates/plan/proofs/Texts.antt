@@ -15,10 +15,10 @@ use lib.Seq.{drop-drop}
 use Rattle.std.specs.Prelude.{Option, Some, None, Result, Ok, Err}
 use Rattle.std.specs.Result.{OkIff, result_ok}
 use Rattle.lists.proofs.Tests.{told, lt_or_le, same_test}
-use Rattle.reading.specs.Reading.{read_column, first_column, Row, with_column, row_of, row_in, numbers_in}
-use Rattle.reading.proofs.Scan.{unread}
-use Rattle.reading.proofs.Reading.{read_most}
-use Rattle.reading.proofs.Rows.{numbers_asked}
+use Rattle.columns.specs.Reading.{read_column, first_column, Row, with_column, row_of, row_in, numbers_in}
+use Rattle.columns.proofs.Scan.{unread}
+use Rattle.columns.proofs.ReadingLaws as Reading.{read_most}
+use Rattle.columns.proofs.Rows.{numbers_asked}
 use Rattle.rules.specs.declared.Gate.{Gate}
 use Rattle.rules.specs.Plan.{plan_widths, plan_line, plan_number, is_head, is_place, is_gate, gate_on, are_gates, gates_on, is_plan, open_board}
 use Rattle.plan.specs.declared.text.Plan.{Plan}

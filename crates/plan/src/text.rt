@@ -19,7 +19,7 @@ fn read_line(line: &[u8]) -> Option<[u16; 3]>
     requires { length line.now ≡ 19 }
     ensures { result ≡ line_in line.now }
 {
-    let [x, y, z] = reading::read_row::<3>(line, &[6; 3], 65535)?;
+    let [x, y, z] = columns::read_row::<3>(line, &[6; 3], 65535)?;
     let first = u16::try_from(x).ok()?;
     let second = u16::try_from(y).ok()?;
     let third = u16::try_from(z).ok()?;

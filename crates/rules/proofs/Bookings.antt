@@ -15,9 +15,9 @@ use lib.Dec.{eqb}
 use borrow.Author.Tests.{eqb-true, ne_eqb}
 use Rattle.std.proofs.lemmas.Bool.{or_right, not-false}
 use Rattle.lists.proofs.Tests.{truth, clash}
-use Rattle.portions.specs.Sets.{has, insert, remove}
-use Rattle.portions.proofs.Bits.{has_none}
-use Rattle.portions.proofs.Laws.{in_insert, in_remove}
+use Rattle.sets.specs.Sets.{has, insert, remove}
+use Rattle.sets.proofs.Bits.{has_none}
+use Rattle.sets.proofs.Laws.{in_insert, in_remove}
 use Rattle.rules.specs.declared.GateNo.{GateNo}
 use Rattle.rules.specs.declared.PaperNo.{PaperNo}
 use Rattle.rules.specs.declared.Gate.{Gate}

@@ -8,8 +8,8 @@ use Rattle.lists.specs.Order as Order
 use Rattle.columns.specs.Text.{bytes}
 use Rattle.columns.specs.Column as Column
 use Rattle.columns.specs.Line as Line
-use Rattle.reading.specs.Reading as Reading
-use Rattle.portions.specs.Sets as Sets
+use Rattle.columns.specs.Reading as Reading
+use Rattle.sets.specs.Sets as Sets
 use Rattle.rules.specs.declared.Seven.{Seven}
 use Rattle.rules.specs.declared.Booking.{Booking}
 use Rattle.rules.specs.declared.Authority.{Authority}

@@ -10,7 +10,7 @@ use borrow.Author.Tests.{eqb-true, eqb-false, eq-eqb, ne_eqb, not-true}
 use Rattle.lists.specs.Search.{first}
 use Rattle.lists.proofs.Search.{Member, first_found, kept, change_each}
 use Rattle.lists.proofs.Distinct.{Taken, taken_change, taken_keep}
-use Rattle.portions.specs.Sets.{has}
+use Rattle.sets.specs.Sets.{has}
 use Rattle.rules.specs.declared.Authority.{Authority}
 use Rattle.rules.specs.declared.Train.{Train}
 use Rattle.rules.specs.declared.Booking.{Booking}

@@ -14,8 +14,8 @@ use Rattle.std.proofs.lemmas.Bool.{and_from, or_cases, or_left, or_right, not-fa
 use Rattle.lists.proofs.Tests.{truth, clash, told, shown, and_no_r}
 use Rattle.lists.proofs.Search.{Member, any_no, below_has, change_each}
 use Rattle.lists.proofs.Distinct.{taken_change}
-use Rattle.portions.specs.Sets.{has, shares}
-use Rattle.portions.proofs.Laws.{shares_some}
+use Rattle.sets.specs.Sets.{has, shares}
+use Rattle.sets.proofs.Laws.{shares_some}
 use Rattle.rules.specs.declared.AuthorityNo.{AuthorityNo}
 use Rattle.rules.specs.declared.kind.Kind.TheVariants.{Twa}
 use Rattle.rules.specs.declared.Authority.{Authority}

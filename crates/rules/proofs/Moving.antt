@@ -13,7 +13,7 @@ use Rattle.lists.proofs.Tests.{clash, told, shown, and_no_r}
 use Rattle.lists.proofs.Search.{Member, any_no, any_yes, first_found}
 use Rattle.lists.proofs.Distinct.{Taken, taken_change}
 use Rattle.lists.proofs.Order.{inserted_from, inserted_into}
-use Rattle.portions.specs.Sets.{has}
+use Rattle.sets.specs.Sets.{has}
 use Rattle.rules.specs.declared.AuthorityNo.{AuthorityNo}
 use Rattle.rules.specs.declared.TrainNo.{TrainNo}
 use Rattle.rules.specs.declared.GateNo.{GateNo}

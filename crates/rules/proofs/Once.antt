@@ -18,7 +18,7 @@ use Rattle.lists.proofs.Tests.{told, and_no_r}
 use Rattle.lists.proofs.Search.{kept, changes_from, length-keep, length-change}
 use Rattle.lists.proofs.Distinct.{changed-number}
 use Rattle.lists.proofs.Order.{ascending_distinct, ascending_append, ascending_keep, ascending_change, ascending_insert, length_insert}
-use Rattle.portions.specs.Sets.{run}
+use Rattle.sets.specs.Sets.{run}
 use Rattle.rules.specs.declared.Gate.{Gate}
 use Rattle.rules.specs.declared.Booking.{Booking}
 use Rattle.rules.specs.declared.Authority.{Authority}

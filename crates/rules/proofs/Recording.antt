@@ -15,8 +15,8 @@ use Rattle.std.proofs.lemmas.Bool.{not-false, or_right}
 use Rattle.lists.proofs.Tests.{truth, told, shown}
 use Rattle.lists.proofs.Search.{Member, any_no, change_each}
 use Rattle.lists.proofs.Distinct.{Taken, taken_change}
-use Rattle.portions.specs.Sets.{has, run, insert, remove}
-use Rattle.portions.proofs.Laws.{run_in, in_run, insert_below, remove_below, in_insert, in_remove}
+use Rattle.sets.specs.Sets.{has, run, insert, remove}
+use Rattle.sets.proofs.Laws.{run_in, in_run, insert_below, remove_below, in_insert, in_remove}
 use Rattle.rules.specs.declared.AuthorityNo.{AuthorityNo}
 use Rattle.rules.specs.declared.GateNo.{GateNo}
 use Rattle.rules.specs.declared.PaperNo.{PaperNo}

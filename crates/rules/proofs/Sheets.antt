@@ -14,10 +14,10 @@ use Rattle.lists.proofs.Search.{Member}
 use Rattle.lists.proofs.Order.{ascending_at}
 use Rattle.columns.specs.Text.{bytes}
 use Rattle.columns.specs.Column.{digits_in, digits}
-use Rattle.cells.specs.declared.Cell.TheVariants.{Empty, Number}
-use Rattle.cells.specs.Cells.{difference, marks, cell, cell_line}
-use Rattle.portions.specs.Sets.{has, set_of, run, size, least, greatest}
-use Rattle.portions.proofs.Ends.{least_is, greatest_is}
+use Rattle.columns.specs.declared.cells.Cell.TheVariants.{Empty, Number}
+use Rattle.columns.specs.Cells.{difference, marks, cell, cell_line}
+use Rattle.sets.specs.Sets.{has, set_of, run, size, least, greatest}
+use Rattle.sets.proofs.Ends.{least_is, greatest_is}
 use Rattle.rules.specs.declared.kind.Kind.TheVariants.{Lpa, Toa, Twa}
 use Rattle.rules.specs.declared.Authority.{Authority}
 use Rattle.rules.specs.Board.{Board, no_authority, authority_no}

@@ -3,7 +3,7 @@
 use Rattle.std.specs.Prelude.{ℕ, suc, Bool, true, false, cond, List, [], ◌∷◌, ◌++◌, set, eqb, Option, Some, None}
 use Rattle.lists.specs.Search.{change}
 use Rattle.lists.specs.Order.{insert_by}
-use Rattle.portions.specs.Sets.{has, run, insert, remove}
+use Rattle.sets.specs.Sets.{has, run, insert, remove}
 use Rattle.rules.specs.declared.AuthorityNo.{AuthorityNo}
 use Rattle.rules.specs.declared.TrainNo.{TrainNo}
 use Rattle.rules.specs.declared.PaperNo.{PaperNo}

@@ -1,6 +1,6 @@
 -- Opening: the plan's text, and the board and the answer that it gives (01, "Track and gates"). Assumes nothing.
 use Rattle.std.specs.Prelude.{ℕ, zero, suc, ◌+◌, ◌*◌, Bool, true, cond, not, ◌&&◌, ◌||◌, List, [], ◌∷◌, length, take, drop, get_or, eqb, leb, ltb}
-use Rattle.reading.specs.Reading.{Row, row_of}
+use Rattle.columns.specs.Reading.{Row, row_of}
 use Rattle.rules.specs.declared.Gate.{Gate}
 use Rattle.rules.specs.Board.{Board, opened, closed, is_outside}
 use Rattle.rules.specs.Call.{between}

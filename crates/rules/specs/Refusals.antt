@@ -2,7 +2,7 @@
 -- nothing.
 use Rattle.std.specs.Prelude.{ℕ, ◌+◌, Bool, cond, not, ◌&&◌, ◌||◌, List, [], ◌∷◌, length, eqb, leb, ltb, Option, Some, None}
 use Rattle.lists.specs.Search.{any, first, below}
-use Rattle.portions.specs.Sets.{has, shares}
+use Rattle.sets.specs.Sets.{has, shares}
 use Rattle.rules.specs.declared.Gate.{Gate}
 use Rattle.rules.specs.declared.Authority.{Authority}
 use Rattle.rules.specs.declared.Train.{Train}

@@ -1,10 +1,10 @@
 -- The shift sheet, a page that the outgoing supervisor signs (02, order 2; order 7: the recorded agreement). Assumes nothing.
 use Rattle.std.specs.Prelude.{ℕ, ◌+◌, ◌*◌, ◌≡◌, Bool, cond, ◌&&◌, List, [], ◌∷◌, ◌++◌, map, length, drop, ltb}
 use Rattle.lists.specs.Search.{any}
-use Rattle.cells.specs.declared.Cell.{Cell}
-use Rattle.cells.specs.declared.Cell.TheVariants.{Empty, Number}
-use Rattle.cells.specs.Cells.{difference, cell_line}
-use Rattle.portions.specs.Sets.{has, set_of, size, least, greatest}
+use Rattle.columns.specs.declared.cells.Cell.{Cell}
+use Rattle.columns.specs.declared.cells.Cell.TheVariants.{Empty, Number}
+use Rattle.columns.specs.Cells.{difference, cell_line}
+use Rattle.sets.specs.Sets.{has, set_of, size, least, greatest}
 use Rattle.rules.specs.declared.Authority.{Authority}
 use Rattle.rules.specs.declared.Register.{Register}
 use Rattle.rules.specs.Board.{Board, board_of, kind_no, is_in_force, has_workers_on, has_term, authority_no}

@@ -179,7 +179,7 @@ pub struct Booking {
     pub replaced: PaperNo,
 }
 
-// A live authority. The limits are a set of portions (crate portions); agreed is the authority whose officer's
+// A live authority. The limits are a set of portions (crate sets); agreed is the authority whose officer's
 // agreement it rests on, a TWA's TOA by AGREE and a TOA's TWA by JOIN, or 0; start is the minute in which its term
 // starts and length the term's minutes, both 0 where it has none.
 #[derive(Clone, Copy, Debug, Default, PartialEq, Eq)]

@@ -8,9 +8,9 @@ use lib.ListN.{length, take, drop, set, length-append, length-drop, drop_of_leng
 use lib.Seq.{length-take-le, take_at, drop_at, drop-drop, set_split}
 use borrow.Rule.Slice.PartMut.{mid_of, put_mid, Post-is}
 use Rattle.columns.proofs.Writing.{part_length, part_back, total}
-use Rattle.cells.specs.declared.Cell.{Cell}
-use Rattle.cells.specs.Cells.{cell, cell_line, cells_fit, Filled}
-use Rattle.cells.proofs.Cells.{cell-length, cell_line-length, cells_next, cell_line_step}
+use Rattle.columns.specs.declared.cells.Cell.{Cell}
+use Rattle.columns.specs.Cells.{cell, cell_line, cells_fit, Filled}
+use Rattle.columns.proofs.CellsLaws as Cells.{cell-length, cell_line-length, cells_next, cell_line_step}
 use Rattle.rules.specs.Sheet.{page_of}
 
 -- ---- a line, cell by cell

@@ -10,15 +10,15 @@ use lib.Seq.{take-suc}
 use lib.ListN.{length, take, drop, get_or, length-append, length-drop, length-map}
 use borrow.Rule.Slice.PartMut.{put_mid}
 use Rattle.lists.proofs.Search.{member_at}
-use Rattle.cells.specs.declared.Cell.{Cell}
-use Rattle.cells.specs.Cells.{cell_line, cells_fit}
+use Rattle.columns.specs.declared.cells.Cell.{Cell}
+use Rattle.columns.specs.Cells.{cell_line, cells_fit}
 use Rattle.rules.specs.declared.Authority.{Authority}
 use Rattle.rules.specs.declared.Register.{Register}
 use Rattle.rules.specs.Board.{board_of}
 use Rattle.rules.specs.Call.{minute_of}
 use Rattle.rules.specs.Step.{Kept}
 use Rattle.rules.specs.Sheet.{authority_cells, authority_widths, authority_line, total_cells, total_widths, total_line, sheet_lines, page_of, sheet, is_short, SheetPost}
-use Rattle.rows.proofs.Fitting.{authority_73, total_73}
+use Rattle.sheet.proofs.Fitting.{authority_73, total_73}
 use Rattle.sheet.proofs.Lines.{Printed, printed_next}
 
 -- ---- the live authorities

@@ -9,8 +9,8 @@ use borrow.Fn.Kinds.{Dens, ended_of}
 use lib.ListN.{length, drop, get_or}
 use Rattle.std.specs.Prelude.{Result}
 use Rattle.lists.proofs.Search.{Member}
-use Rattle.portions.specs.Sets.{least, greatest}
-use Rattle.cells.specs.declared.Cell.TheVariants.{Empty, Number}
+use Rattle.sets.specs.Sets.{least, greatest}
+use Rattle.columns.specs.declared.cells.Cell.TheVariants.{Empty, Number}
 use Rattle.rules.specs.declared.Authority.{Authority}
 use Rattle.rules.specs.declared.Register.{Register}
 use Rattle.rules.specs.declared.refusal.Refusal.{Refusal}

@@ -2,5 +2,6 @@
 #![tactic(auto)]
 
 mod page;
+mod rows;
 
 pub use page::write_sheet;

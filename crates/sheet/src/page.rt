@@ -1,13 +1,13 @@
 // The page: a line for each live authority in the register's order, and the last line, in a lent buffer.
 ghost use Rattle.std.specs.Prelude.{◌*◌, ◌≤◌, ◌≡◌, true, ◌++◌, map, length, drop};
-ghost use Rattle.cells.specs.Cells.{cell_line, cells_fit};
+ghost use Rattle.columns.specs.Cells.{cell_line, cells_fit};
 ghost use Rattle.rules.specs.Answer.{answer_no, lines_no};
 ghost use Rattle.rules.specs.Call.{minute_of};
 ghost use Rattle.rules.specs.Step.{Kept};
 ghost use Rattle.rules.specs.Sheet.{authority_line, page_of, SheetPost};
 
-use cells::Cell;
-use rows::{authority_cells, total_cells};
+use crate::rows::{authority_cells, total_cells};
+use columns::Cell;
 use rules::{Refusal, Register};
 
 // A line has 72 columns and a line feed; a page has 33 lines at most.
@@ -29,7 +29,7 @@ fn fill_cells<const N: usize>(line: &mut [u8], widths: &[usize; N], cells: &[Cel
 {
     let mut at = 0;
     for (width, cell) in widths.iter().zip(cells) {
-        cells::fill_cell(&mut line[at..at + *width], *cell);
+        columns::fill_cell(&mut line[at..at + *width], *cell);
         at += *width;
     }
     line[at] = b'\n';

@@ -10,7 +10,7 @@ use Rattle.lists.proofs.Finds.{found_none, found_is}
 use Rattle.rules.specs.declared.TrainNo.{TrainNo}
 use Rattle.rules.specs.declared.Authority.{Authority}
 use Rattle.rules.specs.declared.Train.{Train}
-use Rattle.portions.specs.Sets.{has}
+use Rattle.sets.specs.Sets.{has}
 use Rattle.rules.specs.Board.{Board, touches, touches_portion, is_outside, is_twa, no_train, is_train, on_board, train}
 use Rattle.rules.specs.Refusals.{in_the_way, is_other_at}
 use Rattle.trains.specs.Trains.{SearchesEnds}

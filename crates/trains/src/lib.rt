@@ -29,7 +29,7 @@ pub fn find_train(trains: &[Train], n: TrainNo) -> Option<Train>
 pub fn is_any_touching(trains: &[Train], set: u64) -> bool
     ensures { result ≡ any (touches set) trains.now }
 {
-    is_any_end(trains, |_, end| portions::has(set, end))
+    is_any_end(trains, |_, end| sets::has(set, end))
 }
 
 // A train is in the way of a CONTINUE from old to a (refusal 12).
@@ -38,8 +38,8 @@ pub fn is_any_in_the_way(trains: &[Train], old: AuthorityNo, a: Authority) -> bo
     ensures { result ≡ any (in_the_way old.0 a) trains.now }
 {
     is_any_end(trains, |t, end| {
-        portions::has(a.limits, end)
-            && (a.kind == Kind::Twa || t.with != old || !portions::has(a.limits, t.head))
+        sets::has(a.limits, end)
+            && (a.kind == Kind::Twa || t.with != old || !sets::has(a.limits, t.head))
     })
 }
 

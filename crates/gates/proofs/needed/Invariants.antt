@@ -1,5 +1,5 @@
 use Rattle.std.proofs.Common.{◌≡◌}
-use Rattle.portions.specs.Sets.{set_of}
+use Rattle.sets.specs.Sets.{set_of}
 use Rattle.gates.specs.Needs.{is_needed}
 use Rattle.gates.proofs.needed.Given as goal
 

@@ -5,8 +5,8 @@ use Rattle.std.specs.Iterator.Adapters.{zip_first, zip_second}
 use Rattle.std.specs.Slice.Iter.{iter_rest}
 use Rattle.std.proofs.lemmas.Slice.Zip.{Zip-more}
 use Rattle.std.proofs.lemmas.Iterator.{empty_from_Zip}
-use Rattle.cells.specs.Cells.{cell_line}
-use Rattle.cells.proofs.Cells.{cells_lengths}
+use Rattle.columns.specs.Cells.{cell_line}
+use Rattle.columns.proofs.CellsLaws as Cells.{cells_lengths}
 use Rattle.sheet.proofs.Lines.{Begun, begun, begun_room, begun_next, begun_end}
 use Rattle.sheet.proofs.page.fill_cells.Goals as goal
 use Rattle.sheet.proofs.page.fill_cells.Given.{Over}

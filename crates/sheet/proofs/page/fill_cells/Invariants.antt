@@ -1,6 +1,6 @@
 use Rattle.std.specs.Iterator.Adapters.{zip_first, zip_second}
 use Rattle.std.specs.Slice.Iter.{iter_rest}
-use Rattle.cells.specs.Cells.{cell_line}
+use Rattle.columns.specs.Cells.{cell_line}
 use Rattle.sheet.proofs.Lines.{Begun}
 use Rattle.sheet.proofs.page.fill_cells.Given as goal
 

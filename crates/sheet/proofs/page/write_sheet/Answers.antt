@@ -1,7 +1,7 @@
 -- `sheet::page::write_sheet` meets its contract. Assumes nothing.
 use Rattle.std.proofs.Common.{refl, sym, ◌∙◌, arith}
 use Rattle.columns.proofs.Writing.{part_length}
-use Rattle.rows.proofs.Fitting.{total_73}
+use Rattle.sheet.proofs.Fitting.{total_73}
 use Rattle.sheet.proofs.Pages.{page_room, sheet_short, sheet_long}
 use Rattle.sheet.proofs.page.write_sheet.Goals as goal
 

@@ -1,8 +1,0 @@
--- `agreements::answer_agree` meets its contract. Assumes nothing.
-use Rattle.rules.specs.Refusals.{lowest, not_to_agree, not_officer}
-use Rattle.agreements.proofs.Agreeing.{agreed}
-use Rattle.agreements.proofs.answer_agree.Goals as goal
-
-pub returns : goal.returns
-unfolding lowest not_to_agree not_officer
-returns c = agreed _ _ _ _ _ c.answer_agreement.ensures

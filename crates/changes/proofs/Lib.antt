@@ -1,2 +1,0 @@
--- The laws that the proof of `effects` cites.
-pub mod Changing

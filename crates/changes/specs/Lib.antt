@@ -1,3 +1,0 @@
--- What the contracts of this crate cite beside the rules.
-pub mod Amending
-pub mod Room

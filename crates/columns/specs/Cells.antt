@@ -1,0 +1,56 @@
+-- A cell of a page: a number, a number behind a minus sign, or nothing, right-justified in fixed columns; and a line of cells. Assumes nothing.
+use Rattle.std.specs.Prelude.{ℕ, ◌-◌, Bool, true, false, cond, not, ◌&&◌, List, [], ◌∷◌, ◌++◌, ◌≡◌, eqb, leb, ltb, length, replicate}
+use Rattle.lists.specs.Search.{any}
+use Rattle.columns.specs.Column.{digits}
+use Rattle.columns.specs.Reading.{value_from}
+use Rattle.columns.specs.declared.cells.Cell.{Cell}
+use Rattle.columns.specs.declared.cells.Cell.TheVariants.{Empty, Number, Minus}
+
+-- a minus b: behind a minus sign where b is the greater
+unfoldable pub difference : ℕ → ℕ → Cell
+difference a b = cond (ltb a b) (Minus (b - a)) (Number (a - b))
+
+-- what is printed of a cell: nothing, the digits of its number, or a minus sign (byte 45) and the digits
+unfoldable pub marks : Cell → List ℕ
+marks Empty = []
+marks (Number n) = digits n
+marks (Minus n) = 45 ∷ digits n
+
+-- a cell in w columns: blanks (byte 32), then what is printed of it
+unfoldable pub cell : ℕ → Cell → List ℕ
+cell w c = replicate (w - length (marks c)) 32 ++ marks c
+
+-- no more is printed of it than w columns hold
+unfoldable pub cell_fits : ℕ → Cell → Bool
+cell_fits w c = leb (length (marks c)) w
+
+-- what filling a lent text with a cell answers, and the text that it leaves: one that the cell does not fit stays as it was
+pub record Filled (before : List ℕ) (c : Cell) (after : List ℕ) (answer : Bool) : Type 0 where
+  pub answered : answer ≡ cell_fits (length before) c
+  pub bytes : after ≡ cond (cell_fits (length before) c) (cell (length before) c) before
+
+-- each cell in columns of its width, then a line feed (byte 10)
+unfoldable pub cell_line : List ℕ → List Cell → List ℕ
+cell_line [] cells = 10 ∷ []
+cell_line (w ∷ widths) [] = 10 ∷ []
+cell_line (w ∷ widths) (c ∷ cells) = cell w c ++ cell_line widths cells
+
+-- as many cells as widths, and each fits its own
+unfoldable pub cells_fit : List ℕ → List Cell → Bool
+cells_fit [] [] = true
+cells_fit [] (c ∷ cells) = false
+cells_fit (w ∷ widths) [] = false
+cells_fit (w ∷ widths) (c ∷ cells) = cell_fits w c && cells_fit widths cells
+
+-- ---- read back
+
+abbrev pub is_minus : ℕ → Bool
+is_minus b = eqb b 45
+
+abbrev pub is_printed : ℕ → Bool
+is_printed b = not (eqb b 32)
+
+-- the cell in a text that `cell` wrote: nothing where every byte is a blank, else the number that its digits make, behind a minus sign where
+-- there is one
+unfoldable pub cell_in : List ℕ → Cell
+cell_in s = cond (any is_printed s) (cond (any is_minus s) (Minus (value_from 0 s)) (Number (value_from 0 s))) Empty

@@ -1,2 +1,0 @@
--- The definitions that the contracts of this crate cite, in reading order.
-pub mod Line

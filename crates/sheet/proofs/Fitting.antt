@@ -1,0 +1,121 @@
+-- The cells of a line fit their columns, and so a line has 73 bytes. Assumes nothing.
+use mathlib.Core.Path.{◌≡◌, refl, ◌∙◌}
+use mathlib.Core.Bool.{Bool, true, false, cond}
+use mathlib.Core.List.{List, [], ◌∷◌}
+use Prim.Native.Nat.{ℕ, ◌+◌, ◌-◌, ◌*◌, ◌^◌, ◌≤◌, ◌<◌}
+use native.Mathlib.Omega.{arith}
+use borrow.Author.Tests.{eq-eqb, ne_eqb}
+use lib.Dec.{ltb}
+use lib.ListN.{length}
+use Rattle.lists.specs.Search.{below}
+use Rattle.lists.proofs.Search.{length-keep}
+use Rattle.std.proofs.lemmas.Bool.{and_from}
+use Rattle.columns.proofs.Writing.{fits_below, total}
+use Rattle.columns.specs.declared.cells.Cell.{Cell}
+use Rattle.columns.specs.declared.cells.Cell.TheVariants.{Empty, Number, Minus}
+use Rattle.columns.specs.Cells.{difference, cell_fits, cell_line, cells_fit}
+use Rattle.columns.proofs.CellsLaws as Cells.{number_fits, minus_fits, empty_fits, cell_line-length}
+use Rattle.sets.specs.Sets.{size, is_member, least, greatest}
+use Rattle.sets.proofs.Ends.{least_most, greatest_most}
+use Rattle.rules.specs.declared.kind.Kind.{Kind}
+use Rattle.rules.specs.declared.kind.Kind.TheVariants.{Lpa, Toa, Twa}
+use Rattle.rules.specs.declared.Authority.{Authority}
+use Rattle.rules.specs.Board.{Board, kind_no, is_in_force, has_workers_on, authority_no}
+use Rattle.rules.specs.Call.{minute_of}
+use Rattle.rules.specs.Sheet.{stage_no, site_no, minutes_in_hand, authority_cells, authority_widths, held_portions, total_cells, total_widths}
+
+-- a number of no more digits than columns, and one of fewer behind a minus sign
+number_in : (w n : ℕ) → 0 < w → n < 10 ^ w → cell_fits w (Number n) ≡ true
+number_in w n p h = number_fits w n ∙ fits_below w n p h
+
+minus_in : (n : ℕ) → n < 10 ^ 8 → cell_fits 9 (Minus n) ≡ true
+minus_in n h = minus_fits 8 n ∙ fits_below 8 n (omega arith) h
+
+difference_in : (a b : ℕ) → a < 10 ^ 9 → b < 10 ^ 8 → cell_fits 9 (difference a b) ≡ true
+unfolding difference
+difference_in a b h l = go (ltb a b)
+  where
+    go : (t : Bool) → cell_fits 9 (cond t (Minus (b - a)) (Number (a - b))) ≡ true
+    go true = minus_in (b - a) (omega arith)
+    go false = number_in 9 (a - b) (omega arith) (omega arith)
+
+-- a number of 16 bits in 7 columns, and in 8
+seven_in : (n : ℕ) → n < 65536 → cell_fits 7 (Number n) ≡ true
+seven_in n h = number_in 7 n (omega arith) (omega arith)
+
+eight_in : (n : ℕ) → n < 65536 → cell_fits 8 (Number n) ≡ true
+eight_in n h = number_in 8 n (omega arith) (omega arith)
+
+kind_in : (k : Kind) → kind_no k < 65536
+kind_in Lpa = omega arith
+kind_in Toa = omega arith
+kind_in Twa = omega arith
+
+pick_in : (t : Bool) (x y : ℕ) → x < 65536 → y < 65536 → cond t x y < 65536
+pick_in true x y h l = h
+pick_in false x y h l = l
+
+-- the minutes in hand of a term that starts within the days, from their length and from what is left of them
+pub minutes_none : (now : ℕ) (a : Authority) → a.length ≡ 0 → (Empty ≡ minutes_in_hand now a) × (cell_fits 9 Empty ≡ true)
+unfolding minutes_in_hand
+minutes_none now a e = (rw (eq-eqb a.length 0 e), empty_fits 9)
+
+pub minutes_some : (now : ℕ) (a : Authority) (length : ℕ) (c : Cell) → (a.length ≡ 0 → ⊥) → length ≡ a.length
+    → c ≡ difference (a.start + length) now → a.start < 10000 * 1440 → a.length < 65536 → now < 10 ^ 8
+    → (c ≡ minutes_in_hand now a) × (cell_fits 9 c ≡ true)
+unfolding minutes_in_hand
+minutes_some now a length c n m e s l h =
+    let d : c ≡ difference (a.start + a.length) now = e ∙ rw m in
+    (rw (ne_eqb a.length 0 n) d, rw d (difference_in (a.start + a.length) now (omega arith) h))
+
+-- the line of an authority: its cells are those of the definition, and each fits
+pub authority_line_lem : (now : ℕ) (a : Authority) (number kind first last officer stage site : ℕ) (minutes : Cell) (agreed : ℕ)
+    → authority_no a < 65536 → a.officer < 65536 → a.agreed.0 < 65536
+    → number ≡ authority_no a → kind ≡ kind_no a.kind → first ≡ least a.limits → last ≡ greatest a.limits
+    → officer ≡ a.officer → stage ≡ stage_no a → site ≡ site_no a
+    → (minutes ≡ minutes_in_hand now a) × (cell_fits 9 minutes ≡ true) → agreed ≡ a.agreed.0
+    → let cells =
+    Number number ∷ Number kind ∷ Number first ∷ Number last ∷ Number officer ∷ Number stage ∷ Number site ∷ minutes ∷ Number agreed ∷ [] in
+    (cells ≡ authority_cells now a) × (cells_fit authority_widths cells ≡ true)
+unfolding cells_fit authority_cells
+authority_line_lem now a number kind first last officer stage site minutes agreed n o r b k f l w t s m g = (
+  rw (b, k, f, l, w, t, s, m.0, g),
+  and_from _ _ (eight_in number (omega arith))
+      (and_from _ _ (seven_in kind (omega (arith, kind_in a.kind)))
+      (and_from _ _ (eight_in first (omega (arith, least_most a.limits)))
+      (and_from _ _ (eight_in last (omega (arith, greatest_most a.limits)))
+      (and_from _ _ (eight_in officer (omega arith))
+      (and_from _ _ (eight_in stage (omega (arith, pick_in (is_in_force a) 2 1 (omega arith) (omega arith))))
+      (and_from _ _ (eight_in site (omega (arith, pick_in (has_workers_on a) 1 2 (omega arith) (omega arith))))
+      (and_from _ _ m.1 (and_from _ _ (eight_in agreed (omega arith)) refl)))))))),
+)
+
+-- now, of a stamp of two numbers of 16 bits
+pub now_small : (day time : ℕ) → day < 65536 → time < 65536 → minute_of day time < 10 ^ 8
+unfolding minute_of
+now_small day time d t = omega arith
+
+-- a line of cells that fit has 73 bytes
+pub authority_73 : (cells : List Cell) → cells_fit authority_widths cells ≡ true → length (cell_line authority_widths cells) ≡ 73
+unfolding total
+authority_73 cells e = cell_line-length authority_widths cells e
+
+pub total_73 : (cells : List Cell) → cells_fit total_widths cells ≡ true → length (cell_line total_widths cells) ≡ 73
+unfolding total
+total_73 cells e = cell_line-length total_widths cells e
+
+-- ---- the last line
+
+size_most : (set : ℕ) → size set ≤ 64
+unfolding size below
+size_most set = length-keep (is_member set) (below 64)
+
+-- the counts of its first two cells are those of the definition, and each cell fits
+pub total_line_lem : (b : Board) (held blocked : ℕ) → held ≡ size (held_portions b.authorities) → blocked ≡ size b.blocks
+    → let cells = Number held ∷ Number blocked ∷ Empty ∷ [] in (cells ≡ total_cells b) × (cells_fit total_widths cells ≡ true)
+unfolding cells_fit total_cells
+total_line_lem b held blocked h g = (
+  rw (h, g),
+  and_from _ _ (number_in 9 held (omega arith) (omega (arith, size_most (held_portions b.authorities))))
+      (and_from _ _ (number_in 9 blocked (omega arith) (omega (arith, size_most b.blocks))) (and_from _ _ (empty_fits 54) refl)),
+)

@@ -1,0 +1,73 @@
+// The cells of the shift sheet's lines: those of a live authority, and those of the last line.
+ghost use Rattle.std.specs.Prelude.{◌*◌, ◌^◌, ◌<◌, ◌≡◌, true};
+ghost use Rattle.columns.specs.Cells.{cell_fits, cells_fit};
+ghost use Rattle.rules.specs.Board.{board_of};
+ghost use Rattle.rules.specs.Sheet.{stage_no, site_no, minutes_in_hand, authority_cells, authority_widths};
+ghost use Rattle.rules.specs.Sheet.{held_portions, total_cells, total_widths};
+
+use columns::{Cell, difference};
+use rules::{Authority, Register};
+
+// 1 pending, 2 in force.
+fn stage_no(a: Authority) -> u32
+    ensures { result ≡ stage_no a }
+{
+    if a.in_force { 2 } else { 1 }
+}
+
+// 1 on, 2 clear.
+fn site_no(a: Authority) -> u32
+    ensures { result ≡ site_no a }
+{
+    if a.workers_on { 1 } else { 2 }
+}
+
+// Start plus length, minus now; nothing where there is no term.
+fn minutes_in_hand(a: Authority, now: u32) -> Cell
+    requires { (a.start < 10000 * 1440) × (now < 10 ^ 8) }
+    ensures { (result ≡ minutes_in_hand now a) × (cell_fits 9 result ≡ true) }
+{
+    if a.length == 0 {
+        return Cell::Empty;
+    }
+    difference(a.start + u32::from(a.length), now)
+}
+
+// The line of a live authority; its last cell is the authority whose officer's agreement it rests on, 0 for none.
+pub fn authority_cells(a: Authority, now: u32) -> [Cell; 9]
+    requires { (a.start < 10000 * 1440) × (now < 10 ^ 8) }
+    ensures { (result ≡ authority_cells now a) × (cells_fit authority_widths result ≡ true) }
+{
+    [
+        Cell::Number(u32::from(a.number.0)),
+        Cell::Number(u32::from(u16::from(a.kind))),
+        Cell::Number(sets::least(a.limits)),
+        Cell::Number(sets::greatest(a.limits)),
+        Cell::Number(u32::from(a.officer)),
+        Cell::Number(stage_no(a)),
+        Cell::Number(site_no(a)),
+        minutes_in_hand(a, now),
+        Cell::Number(u32::from(a.agreed.0)),
+    ]
+}
+
+// The portions that an authority in force has in its limits.
+fn held_portions(authorities: &[Authority]) -> u64
+    ensures { result ≡ held_portions authorities.now }
+{
+    authorities
+        .iter()
+        .filter(|a| a.in_force)
+        .fold(0, |held, a| sets::union(held, a.limits))
+}
+
+// The last line: the portions held and the gates blocked, and blanks.
+pub fn total_cells(register: &Register) -> [Cell; 3]
+    ensures { (result ≡ total_cells (board_of register.now)) × (cells_fit total_widths result ≡ true) }
+{
+    [
+        Cell::Number(sets::size(held_portions(&register.authorities))),
+        Cell::Number(sets::size(register.blocks)),
+        Cell::Empty,
+    ]
+}

@@ -1,2 +1,0 @@
--- The laws that the proofs of this crate cite.
-pub mod Deciding
