@@ -20,7 +20,7 @@ use Rattle.columns.specs.Reading.{same_text, read_column, first_column, Row, wit
 use Rattle.columns.proofs.Scan.{unread}
 use Rattle.columns.proofs.Texts.{same_eq}
 use Rattle.columns.proofs.Writing.{column-length}
-use Rattle.columns.proofs.ReadingLaws as Reading.{read_column_lem, column_read, read_most}
+use Rattle.columns.proofs.ReadingLaws.{read_column_lem, column_read, read_most}
 
 -- no number is above `most`
 unfoldable pub at_most : ℕ → List ℕ → Bool

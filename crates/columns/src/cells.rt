@@ -5,7 +5,7 @@ ghost use Rattle.columns.specs.Cells as Cells;
 ghost use Rattle.columns.specs.declared.cells.Cell.TheVariants as Cell;
 
 use crate::reading::blanks_of;
-use crate::{fill_column, is_fitting};
+use crate::write::{fill_column, is_fitting};
 
 // What stands in a cell.
 #[derive(Clone, Copy, Debug, PartialEq, Eq)]

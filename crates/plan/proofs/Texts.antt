@@ -17,7 +17,7 @@ use Rattle.std.specs.Result.{OkIff, result_ok}
 use Rattle.lists.proofs.Tests.{told, lt_or_le, same_test}
 use Rattle.columns.specs.Reading.{read_column, first_column, Row, with_column, row_of, row_in, numbers_in}
 use Rattle.columns.proofs.Scan.{unread}
-use Rattle.columns.proofs.ReadingLaws as Reading.{read_most}
+use Rattle.columns.proofs.ReadingLaws.{read_most}
 use Rattle.columns.proofs.Rows.{numbers_asked}
 use Rattle.rules.specs.declared.Gate.{Gate}
 use Rattle.rules.specs.Plan.{plan_widths, plan_line, plan_number, is_head, is_place, is_gate, gate_on, are_gates, gates_on, is_plan, open_board}

@@ -14,7 +14,7 @@ use Rattle.columns.proofs.Writing.{fits_below, total}
 use Rattle.columns.specs.declared.cells.Cell.{Cell}
 use Rattle.columns.specs.declared.cells.Cell.TheVariants.{Empty, Number, Minus}
 use Rattle.columns.specs.Cells.{difference, cell_fits, cell_line, cells_fit}
-use Rattle.columns.proofs.CellsLaws as Cells.{number_fits, minus_fits, empty_fits, cell_line-length}
+use Rattle.columns.proofs.CellsLaws.{number_fits, minus_fits, empty_fits, cell_line-length}
 use Rattle.sets.specs.Sets.{size, is_member, least, greatest}
 use Rattle.sets.proofs.Ends.{least_most, greatest_most}
 use Rattle.rules.specs.declared.kind.Kind.{Kind}

@@ -10,7 +10,7 @@ use borrow.Rule.Slice.PartMut.{mid_of, put_mid, Post-is}
 use Rattle.columns.proofs.Writing.{part_length, part_back, total}
 use Rattle.columns.specs.declared.cells.Cell.{Cell}
 use Rattle.columns.specs.Cells.{cell, cell_line, cells_fit, Filled}
-use Rattle.columns.proofs.CellsLaws as Cells.{cell-length, cell_line-length, cells_next, cell_line_step}
+use Rattle.columns.proofs.CellsLaws.{cell-length, cell_line-length, cells_next, cell_line_step}
 use Rattle.rules.specs.Sheet.{page_of}
 
 -- ---- a line, cell by cell

@@ -4,7 +4,7 @@ use borrow.Author.Rules.{part_to_end}
 use borrow.Author.Tests.{eqb-true, eqb-false}
 use Rattle.columns.specs.Reading.{blanks}
 use Rattle.columns.proofs.Scan.{blanks_le}
-use Rattle.columns.proofs.ReadingLaws as Reading.{read_none, read_zeros, read_digits}
+use Rattle.columns.proofs.ReadingLaws.{read_none, read_zeros, read_digits}
 use Rattle.columns.proofs.reading.read_column.Goals as goal
 
 -- the part that the code takes is what stands behind the blanks
