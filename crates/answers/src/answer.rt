@@ -1,20 +1,16 @@
 // The answer to each call: accepted, or the lowest refusal whose condition holds.
-#![tactic(auto, using(authorities::proofs::AuthorityLaws::not_found, authorities::proofs::AuthorityLaws::found), unfolding(rules::specs::Board::board_of, rules::specs::Refusals::lowest, rules::specs::Refusals::not_officer))]
+#![tactic(auto, using(authorities::proofs::AuthorityLaws::not_found, authorities::proofs::AuthorityLaws::found), unfolding(rules::specs::Board::board_of, rules::specs::Refusals::lowest, rules::specs::Refusals::not_officer, rules::specs::Refusals::occupied, rules::specs::Refusals::occupied_beside, rules::specs::Refusals::overlaps, rules::specs::Refusals::still_needed))]
 
-ghost use Rattle.std.specs.Prelude.{◌≡◌, not, ◌||◌, ◌∷◌, [], eqb, Some};
-ghost use Rattle.rules.specs.Board.{board_of, is_in_force};
-ghost use Rattle.rules.specs.Refusals.{◌when◌, unprotected, occupied_beside, overlaps, outside_term};
+ghost use Rattle.std.specs.Prelude.{◌≡◌, Some};
+ghost use Rattle.rules.specs.Board.{board_of};
 ghost use Rattle.rules.specs.Refusals.{lowest, request_refusals, withdraw_refusals, block_refusals, unblock_refusals};
 ghost use Rattle.rules.specs.Refusals.{grant_refusals, clear_refusals, reoccupy_refusals, hand_over_refusals};
-ghost use Rattle.rules.specs.Refusals.{fulfil_refusals, continue_refusals, own};
+ghost use Rattle.rules.specs.Refusals.{fulfil_refusals, of_continue, continue_refusals, own};
 ghost use Rattle.rules.specs.Answer.{answer_no};
 ghost use Rattle.answers.specs.Held.{held_by, not_at_stage};
 
 use crate::agreements::{answer_agree, answer_join};
-use crate::conditions::{
-    is_full, is_occupied, is_occupied_beside, is_outside_term, is_overlapping, is_still_needed,
-    is_unprotected,
-};
+use crate::conditions::{is_full, is_outside_term, is_unprotected};
 use crate::terms::answer_term;
 use authorities::find;
 use gates::{answer_book_in, answer_book_out, can_be_blocked};
@@ -93,7 +89,8 @@ fn answer_unblock(register: &Register, g: GateNo) -> Result<(), Refusal>
     if !sets::has(register.blocks, g.0) {
         return Err(Refusal::AlreadySo);
     }
-    if is_still_needed(register, g) {
+    let gate = gates::gate_at(&register.gates, g);
+    if authorities::is_still_needed(&register.authorities, gate) {
         return Err(Refusal::StillNeeded);
     }
     Ok(())
@@ -106,10 +103,10 @@ fn answer_grant(register: &Register, s: Seven, n: AuthorityNo, officer: u16) -> 
     if is_unprotected(register, a) {
         return Err(Refusal::Unprotected);
     }
-    if is_occupied(register, a) {
+    if trains::is_any_touching(&register.trains, a.limits) {
         return Err(Refusal::Occupied);
     }
-    if is_overlapping(register, AuthorityNo(0), a) {
+    if authorities::is_overlapped(&register.authorities, AuthorityNo(0), a) {
         return Err(Refusal::Overlap);
     }
     if is_outside_term(s, a) {
@@ -135,7 +132,7 @@ fn answer_reoccupy(register: &Register, n: AuthorityNo, officer: u16) -> Result<
     if a.workers_on {
         return Err(Refusal::AlreadySo);
     }
-    if a.kind == Kind::Twa && is_occupied(register, a) {
+    if a.kind == Kind::Twa && trains::is_any_touching(&register.trains, a.limits) {
         return Err(Refusal::Occupied);
     }
     Ok(())
@@ -171,7 +168,7 @@ fn answer_fulfil(
 
 // 6, 7, 11, 12, 13 and 22 of CONTINUE, with the two found.
 // Kept: a function of its own. With the two searches in it the check stops at its limit of case splits.
-#[tactic(auto, using(authorities::proofs::Finding::refusals))]
+#[tactic(auto, using(authorities::proofs::Finding::refusals), unfolding(rules::specs::Board::board_of, rules::specs::Refusals::occupied_beside, rules::specs::Refusals::overlaps))]
 fn decide_continue(
     register: &Register,
     s: Seven,
@@ -182,13 +179,7 @@ fn decide_continue(
     officer_new: u16,
 ) -> Result<(), Refusal>
     ensures { answer_no result
-        ≡ lowest (6 when (not (is_in_force x) || is_in_force y)
-        ∷ 7 when (not (eqb x.officer officer_old) || not (eqb y.officer officer_new))
-        ∷ 11 when unprotected (board_of register.now) y
-        ∷ 12 when occupied_beside (board_of register.now) old.0 y
-        ∷ 13 when overlaps (board_of register.now) old.0 y
-        ∷ 22 when outside_term s y
-        ∷ []) }
+        ≡ lowest (of_continue (board_of register.now) s old.0 x y officer_old officer_new) }
 {
     if !x.in_force || y.in_force {
         return Err(Refusal::Stage);
@@ -199,10 +190,10 @@ fn decide_continue(
     if is_unprotected(register, y) {
         return Err(Refusal::Unprotected);
     }
-    if is_occupied_beside(register, old, y) {
+    if trains::is_any_in_the_way(&register.trains, old, y) {
         return Err(Refusal::Occupied);
     }
-    if is_overlapping(register, old, y) {
+    if authorities::is_overlapped(&register.authorities, old, y) {
         return Err(Refusal::Overlap);
     }
     if is_outside_term(s, y) {

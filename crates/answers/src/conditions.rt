@@ -1,11 +1,9 @@
-// The conditions for refusal that are a search or a sum of their own: full, unprotected, occupied, overlapping, still
-// needed, and those on terms (02, order 1).
+// The conditions for refusal that are more than one search: full, unprotected, and those on terms (02, order 1).
 ghost use Rattle.std.specs.Prelude.{◌≡◌};
 ghost use Rattle.rules.specs.Board.{board_of};
-ghost use Rattle.rules.specs.Refusals.{full, unprotected, occupied, occupied_beside, overlaps, still_needed};
-ghost use Rattle.rules.specs.Refusals.{too_soon, outside_term};
+ghost use Rattle.rules.specs.Refusals.{full, unprotected, too_soon, outside_term};
 
-use rules::{Authority, AuthorityNo, GateNo, Kind, Register, Seven};
+use rules::{Authority, Kind, Register, Seven};
 use stamps::minute_of;
 
 // 9: 32 held, or 9999 allotted.
@@ -22,39 +20,6 @@ pub fn is_unprotected(register: &Register, a: Authority) -> bool
     ensures { result ≡ unprotected (board_of register.now) a }
 {
     !sets::subset(gates::needed(&register.gates, a.limits), register.blocks)
-}
-
-// 12 of GRANT and REOCCUPY: a train touches the limits.
-#[tactic(auto, unfolding(rules::specs::Board::board_of, rules::specs::Refusals::occupied))]
-pub fn is_occupied(register: &Register, a: Authority) -> bool
-    ensures { result ≡ occupied (board_of register.now) a }
-{
-    trains::is_any_touching(&register.trains, a.limits)
-}
-
-// 12 of CONTINUE: a train is in the way of the new authority.
-#[tactic(auto, unfolding(rules::specs::Board::board_of, rules::specs::Refusals::occupied_beside))]
-pub fn is_occupied_beside(register: &Register, old: AuthorityNo, a: Authority) -> bool
-    ensures { result ≡ occupied_beside (board_of register.now) old.0 a }
-{
-    trains::is_any_in_the_way(&register.trains, old, a)
-}
-
-// 13: another in force shares a portion, old not counted.
-#[tactic(auto, unfolding(rules::specs::Board::board_of, rules::specs::Refusals::overlaps))]
-pub fn is_overlapping(register: &Register, old: AuthorityNo, a: Authority) -> bool
-    ensures { result ≡ overlaps (board_of register.now) old.0 a }
-{
-    authorities::is_overlapped(&register.authorities, old, a)
-}
-
-// 16: an authority in force needs the gate.
-#[tactic(auto, unfolding(rules::specs::Board::board_of, rules::specs::Refusals::still_needed))]
-pub fn is_still_needed(register: &Register, g: GateNo) -> bool
-    ensures { result ≡ still_needed (board_of register.now) g.0 }
-{
-    let gate = gates::gate_at(&register.gates, g);
-    authorities::is_still_needed(&register.authorities, gate)
 }
 
 // 21: the start is before the call or less than 10,080 minutes after it.

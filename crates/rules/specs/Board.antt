@@ -193,83 +193,37 @@ needs limits gate = has gate.to limits && not (has gate.from limits)
 
 -- ---- a board changed in one thing
 
-abbrev pub with_authorities : List Authority → Board → Board
-with_authorities xs b = record {
-  portions = b.portions;
-  gates = b.gates;
-  bookings = b.bookings;
-  day = b.day;
-  time = b.time;
-  last = b.last;
-  blocks = b.blocks;
-  authorities = xs;
-  trains = b.trains;
-}
-
-abbrev pub with_trains : List Train → Board → Board
-with_trains ts b = record {
-  portions = b.portions;
-  gates = b.gates;
-  bookings = b.bookings;
-  day = b.day;
-  time = b.time;
-  last = b.last;
-  blocks = b.blocks;
-  authorities = b.authorities;
-  trains = ts;
-}
-
-abbrev pub with_blocks : ℕ → Board → Board
-with_blocks blocks b = record {
-  portions = b.portions;
-  gates = b.gates;
-  bookings = b.bookings;
-  day = b.day;
-  time = b.time;
-  last = b.last;
-  blocks = blocks;
-  authorities = b.authorities;
-  trains = b.trains;
-}
-
-abbrev pub with_bookings : List Booking → Board → Board
-with_bookings bookings b = record {
+-- with these in the places that calls change; portions and gates are the plan's
+abbrev pub changed : Board → List Booking → ℕ → ℕ → ℕ → ℕ → List Authority → List Train → Board
+changed b bookings day time last blocks authorities trains = record {
   portions = b.portions;
   gates = b.gates;
   bookings = bookings;
-  day = b.day;
-  time = b.time;
-  last = b.last;
-  blocks = b.blocks;
-  authorities = b.authorities;
-  trains = b.trains;
-}
-
-abbrev pub with_last : ℕ → Board → Board
-with_last n b = record {
-  portions = b.portions;
-  gates = b.gates;
-  bookings = b.bookings;
-  day = b.day;
-  time = b.time;
-  last = n;
-  blocks = b.blocks;
-  authorities = b.authorities;
-  trains = b.trains;
-}
-
-abbrev pub with_stamp : ℕ → ℕ → Board → Board
-with_stamp day time b = record {
-  portions = b.portions;
-  gates = b.gates;
-  bookings = b.bookings;
   day = day;
   time = time;
-  last = b.last;
-  blocks = b.blocks;
-  authorities = b.authorities;
-  trains = b.trains;
+  last = last;
+  blocks = blocks;
+  authorities = authorities;
+  trains = trains;
 }
+
+abbrev pub with_authorities : List Authority → Board → Board
+with_authorities xs b = changed b b.bookings b.day b.time b.last b.blocks xs b.trains
+
+abbrev pub with_trains : List Train → Board → Board
+with_trains ts b = changed b b.bookings b.day b.time b.last b.blocks b.authorities ts
+
+abbrev pub with_blocks : ℕ → Board → Board
+with_blocks blocks b = changed b b.bookings b.day b.time b.last blocks b.authorities b.trains
+
+abbrev pub with_bookings : List Booking → Board → Board
+with_bookings bookings b = changed b bookings b.day b.time b.last b.blocks b.authorities b.trains
+
+abbrev pub with_last : ℕ → Board → Board
+with_last n b = changed b b.bookings b.day b.time n b.blocks b.authorities b.trains
+
+abbrev pub with_stamp : ℕ → ℕ → Board → Board
+with_stamp day time b = changed b b.bookings day time b.last b.blocks b.authorities b.trains
 
 -- the authorities with n changed by f, and with n gone; the same for trains
 abbrev pub amended : ℕ → (Authority → Authority) → List Authority → List Authority

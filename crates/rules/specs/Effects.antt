@@ -32,75 +32,39 @@ requested n kind limits officer = record {
   length = 0;
 }
 
--- GRANT, and CONTINUE as new: "In force, workers on."
-abbrev pub granted : Authority → Authority
-granted a = record {
-  number = a.number;
-  kind = a.kind;
-  limits = a.limits;
-  officer = a.officer;
-  in_force = true;
-  workers_on = true;
-  agreed = a.agreed;
-  start = a.start;
-  length = a.length;
-}
-
--- CLEAR and REOCCUPY: "They set the site."
-abbrev pub with_site : Bool → Authority → Authority
-with_site on a = record {
-  number = a.number;
-  kind = a.kind;
-  limits = a.limits;
-  officer = a.officer;
-  in_force = is_in_force a;
-  workers_on = on;
-  agreed = a.agreed;
-  start = a.start;
-  length = a.length;
-}
-
--- HAND OVER
-abbrev pub with_officer : ℕ → Authority → Authority
-with_officer officer a = record {
+-- with these in the places that calls change; number, kind and limits are those of its REQUEST
+abbrev pub amended_to : Authority → ℕ → Bool → Bool → AuthorityNo → ℕ → ℕ → Authority
+amended_to a officer in_force workers_on agreed start length = record {
   number = a.number;
   kind = a.kind;
   limits = a.limits;
   officer = officer;
-  in_force = is_in_force a;
-  workers_on = has_workers_on a;
-  agreed = a.agreed;
-  start = a.start;
-  length = a.length;
-}
-
--- AGREE, of the TWA: "Replaces an earlier agreement."; JOIN (order 4), of the TOA: "The TOA records the TWA"
-abbrev pub with_agreed : AuthorityNo → Authority → Authority
-with_agreed other a = record {
-  number = a.number;
-  kind = a.kind;
-  limits = a.limits;
-  officer = a.officer;
-  in_force = is_in_force a;
-  workers_on = has_workers_on a;
-  agreed = other;
-  start = a.start;
-  length = a.length;
-}
-
--- TERM: "start day, start time, length in minutes": the minute in which the term starts, and its length. No other call changes it.
-abbrev pub with_term : ℕ → ℕ → Authority → Authority
-with_term start length a = record {
-  number = a.number;
-  kind = a.kind;
-  limits = a.limits;
-  officer = a.officer;
-  in_force = is_in_force a;
-  workers_on = has_workers_on a;
-  agreed = a.agreed;
+  in_force = in_force;
+  workers_on = workers_on;
+  agreed = agreed;
   start = start;
   length = length;
 }
+
+-- GRANT, and CONTINUE as new: "In force, workers on."
+abbrev pub granted : Authority → Authority
+granted a = amended_to a a.officer true true a.agreed a.start a.length
+
+-- CLEAR and REOCCUPY: "They set the site."
+abbrev pub with_site : Bool → Authority → Authority
+with_site on a = amended_to a a.officer (is_in_force a) on a.agreed a.start a.length
+
+-- HAND OVER
+abbrev pub with_officer : ℕ → Authority → Authority
+with_officer officer a = amended_to a officer (is_in_force a) (has_workers_on a) a.agreed a.start a.length
+
+-- AGREE, of the TWA: "Replaces an earlier agreement."; JOIN (order 4), of the TOA: "The TOA records the TWA"
+abbrev pub with_agreed : AuthorityNo → Authority → Authority
+with_agreed other a = amended_to a a.officer (is_in_force a) (has_workers_on a) other a.start a.length
+
+-- TERM: "start day, start time, length in minutes": the minute in which the term starts, and its length. No other call changes it.
+abbrev pub with_term : ℕ → ℕ → Authority → Authority
+with_term start length a = amended_to a a.officer (is_in_force a) (has_workers_on a) a.agreed start length
 
 -- ---- what becomes of one train
 

@@ -56,95 +56,62 @@ start = record { requests = 0; grants = 0; authority = λ n. no_reckoned; train 
 unfoldable pub put : {X : Type 0} → ℕ → X → (ℕ → X) → ℕ → X
 put n x f m = cond (eqb m n) x (f m)
 
+abbrev pub reckoning : ℕ → ℕ → (ℕ → Reckoned) → (ℕ → Position) → (ℕ → Bool) → Reckoning
+reckoning requests grants authority train blocked = record {
+  requests = requests;
+  grants = grants;
+  authority = authority;
+  train = train;
+  blocked = blocked;
+}
+
 abbrev pub with_authorities : (ℕ → Reckoned) → Reckoning → Reckoning
-with_authorities f r = record { requests = r.requests; grants = r.grants; authority = f; train = r.train; blocked = r.blocked }
+with_authorities f r = reckoning r.requests r.grants f r.train r.blocked
 
 abbrev pub with_trains : (ℕ → Position) → Reckoning → Reckoning
-with_trains f r = record { requests = r.requests; grants = r.grants; authority = r.authority; train = f; blocked = r.blocked }
+with_trains f r = reckoning r.requests r.grants r.authority f r.blocked
 
 abbrev pub with_blocked : (ℕ → Bool) → Reckoning → Reckoning
-with_blocked f r = record { requests = r.requests; grants = r.grants; authority = r.authority; train = r.train; blocked = f }
+with_blocked f r = reckoning r.requests r.grants r.authority r.train f
 
 -- ---- what becomes of one authority, and of one train
 
--- "The nth REQUEST gives authority n its kind and limits."
-abbrev pub as_requested : Kind → ℕ → ℕ → Reckoned → Reckoned
-as_requested kind first last x = record {
+abbrev pub reckoned_as : Kind → ℕ → ℕ → Bool → ℕ → Bool → ℕ → ℕ → Reckoned
+reckoned_as kind first last is_in_force since has_workers_on agreed joined = record {
   kind = kind;
   first = first;
   last = last;
-  is_in_force = x.is_in_force;
-  since = x.since;
-  has_workers_on = x.has_workers_on;
-  agreed = x.agreed;
-  joined = x.joined;
+  is_in_force = is_in_force;
+  since = since;
+  has_workers_on = has_workers_on;
+  agreed = agreed;
+  joined = joined;
 }
+
+-- "The nth REQUEST gives authority n its kind and limits."
+abbrev pub as_requested : Kind → ℕ → ℕ → Reckoned → Reckoned
+as_requested kind first last x = reckoned_as kind first last x.is_in_force x.since x.has_workers_on x.agreed x.joined
 
 -- "An authority is in force from its GRANT, or a CONTINUE as new, until its FULFIL, or a CONTINUE as old. In that time its workers are on";
 -- of two, the one with the lower `since` came into force earlier
 abbrev pub as_forced : ℕ → Reckoned → Reckoned
-as_forced since x = record {
-  kind = x.kind;
-  first = x.first;
-  last = x.last;
-  is_in_force = true;
-  since = since;
-  has_workers_on = true;
-  agreed = x.agreed;
-  joined = x.joined;
-}
+as_forced since x = reckoned_as x.kind x.first x.last true since true x.agreed x.joined
 
 -- "until its FULFIL, or a CONTINUE as old"
 abbrev pub as_ended : Reckoned → Reckoned
-as_ended x = record {
-  kind = x.kind;
-  first = x.first;
-  last = x.last;
-  is_in_force = false;
-  since = x.since;
-  has_workers_on = false;
-  agreed = x.agreed;
-  joined = x.joined;
-}
+as_ended x = reckoned_as x.kind x.first x.last false x.since false x.agreed x.joined
 
 -- "save from a CLEAR to the next REOCCUPY"
 abbrev pub as_sited : Bool → Reckoned → Reckoned
-as_sited on x = record {
-  kind = x.kind;
-  first = x.first;
-  last = x.last;
-  is_in_force = x.is_in_force;
-  since = x.since;
-  has_workers_on = on;
-  agreed = x.agreed;
-  joined = x.joined;
-}
+as_sited on x = reckoned_as x.kind x.first x.last x.is_in_force x.since on x.agreed x.joined
 
 -- "A TOA and a TWA have an agreement if the TWA's last AGREE names that TOA."
 abbrev pub as_agreed : ℕ → Reckoned → Reckoned
-as_agreed toa x = record {
-  kind = x.kind;
-  first = x.first;
-  last = x.last;
-  is_in_force = x.is_in_force;
-  since = x.since;
-  has_workers_on = x.has_workers_on;
-  agreed = toa;
-  joined = x.joined;
-}
+as_agreed toa x = reckoned_as x.kind x.first x.last x.is_in_force x.since x.has_workers_on toa x.joined
 
 -- "the TOA's last JOIN counts, if it names that TWA" (02, order 4)
 abbrev pub as_joined : ℕ → Reckoned → Reckoned
-as_joined twa x = record {
-  kind = x.kind;
-  first = x.first;
-  last = x.last;
-  is_in_force = x.is_in_force;
-  since = x.since;
-  has_workers_on = x.has_workers_on;
-  agreed = x.agreed;
-  joined = twa;
-}
+as_joined twa x = reckoned_as x.kind x.first x.last x.is_in_force x.since x.has_workers_on x.agreed twa
 
 -- "A MOVE through a gate from outside puts the train's head and rear at the gate's "to"; any other MOVE puts the head there and the
 -- rear stays. The train is then under the authority that the MOVE names, none for 0."
@@ -177,25 +144,15 @@ as_continued old new x t = record {
 
 -- authority n comes into force, later than each that did so before
 abbrev pub forced : ℕ → Reckoning → Reckoning
-forced n r = record {
-  requests = r.requests;
-  grants = suc r.grants;
-  authority = put n (as_forced (suc r.grants) (r.authority n)) r.authority;
-  train = r.train;
-  blocked = r.blocked;
-}
+forced n r = reckoning r.requests (suc r.grants) (put n (as_forced (suc r.grants) (r.authority n)) r.authority) r.train r.blocked
 
 -- ---- one accepted call
 
 unfoldable pub reckon : List Gate → Reckoning → Option Call → Reckoning
 reckon gates r None = r
-reckon gates r (Some (Request kind first last officer)) = record {
-  requests = suc r.requests;
-  grants = r.grants;
-  authority = put (suc r.requests) (as_requested kind first last (r.authority (suc r.requests))) r.authority;
-  train = r.train;
-  blocked = r.blocked;
-}
+reckon gates r (Some (Request kind first last officer)) =
+    reckoning (suc r.requests) r.grants (put (suc r.requests) (as_requested kind first last (r.authority (suc r.requests))) r.authority)
+    r.train r.blocked
 -- "WITHDRAW and HAND OVER change nothing here."
 reckon gates r (Some (Withdraw n officer)) = r
 reckon gates r (Some (HandOver n out into)) = r

@@ -273,17 +273,21 @@ fulfil_refusals b n officer assurances =
     ∷ 15 when not (eqb assurances 7)
     ∷ []
 
--- CONTINUE {5; 6 old not in force or new not pending; 7 either; 11, 12, 13 for the new}; 22 for the new, order 1
+-- CONTINUE {5; 6 old not in force or new not pending; 7 either; 11, 12, 13 for the new}; 22 for the new, order 1: behind 5, of the two that are live
+abbrev pub of_continue : Board → Seven → ℕ → Authority → Authority → ℕ → ℕ → List Refusal
+of_continue b s old x y officer_old officer_new =
+    6 when (not (is_in_force x) || is_in_force y)
+    ∷ 7 when (not (eqb x.officer officer_old) || not (eqb y.officer officer_new))
+    ∷ 11 when unprotected b y
+    ∷ 12 when occupied_beside b old y
+    ∷ 13 when overlaps b old y
+    ∷ 22 when outside_term s y
+    ∷ []
+
 abbrev pub continue_refusals : Board → Seven → ℕ → ℕ → ℕ → ℕ → List Refusal
 continue_refusals b s old new officer_old officer_new =
     5 when (not_live b old || not_live b new)
-    ∷ 6 when (not (is_in_force (authority b old)) || is_in_force (authority b new))
-    ∷ 7 when (not_officer b old officer_old || not_officer b new officer_new)
-    ∷ 11 when unprotected b (authority b new)
-    ∷ 12 when occupied_beside b old (authority b new)
-    ∷ 13 when overlaps b old (authority b new)
-    ∷ 22 when outside_term s (authority b new)
-    ∷ []
+    ∷ of_continue b s old (authority b old) (authority b new) officer_old officer_new
 
 -- MOVE {9, 12, 14, 17, 18, 19}, through the gate with the number g
 abbrev pub move_refusals : Board → ℕ → ℕ → Gate → ℕ → ℕ → List Refusal
