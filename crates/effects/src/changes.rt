@@ -1,52 +1,21 @@
-// What the accepted calls do that change authorities, blocks or bookings and no train.
-#![tactic(auto, using(crate::proofs::Changing::amended_by), unfolding(rules::specs::Board::board_of, rules::specs::Effects::effect))]
+// What accepted calls change of authorities and bookings, each in its place.
+#![tactic(auto, using(crate::proofs::Changing::amended_by))]
 
-ghost use Rattle.std.specs.Prelude.{◌≡◌, ℕ, Some, set};
+ghost use Rattle.std.specs.Prelude.{◌≡◌, Some, set};
 ghost use Rattle.rules.specs.declared.Call.TheVariants as Call;
 ghost use Rattle.rules.specs.Board.{board_of, amended, ended};
-ghost use Rattle.rules.specs.Effects.{booked_in, effect, granted, with_agreed, with_site};
-ghost use Rattle.effects.specs.Amending.{AmendedBy, with_amended};
+ghost use Rattle.rules.specs.Effects.{booked_in, effect, granted, with_agreed, with_officer, with_site, with_term};
+ghost use Rattle.effects.specs.Amending.{AmendedBy};
 ghost use Rattle.effects.specs.Room.{HasPlace};
 
 use arrayvec::ArrayVec;
 use lists::change;
 use rules::{Authority, AuthorityNo, Booking, GateNo, Kind, PaperNo, Register};
-use stamps::minute_of;
 
-// Takes out the authority with that number; the order of the others stays.
-pub fn end_authority(authorities: &mut ArrayVec<Authority, 32>, n: AuthorityNo)
-    ensures { authorities.new.items ≡ ended n.0 authorities.old.items }
-{
-    authorities.retain(|a| a.number != n);
-}
+type Authorities = ArrayVec<Authority, 32>;
 
-// Changes the authority with that number by f, in its place; the others stay.
-fn amend<F: Fn(Authority) -> Authority>(
-    authorities: &mut ArrayVec<Authority, 32>,
-    n: AuthorityNo,
-    f: F,
-)
-    requires { F.IsAlwaysCallable f }
-    ensures { AmendedBy (F.post f) n.0 authorities.old.items authorities.new.items }
-{
-    change(authorities, |a| a.number == n, f);
-}
-
-// Puts the authority with that number in force, with workers on.
-pub fn put_in_force(authorities: &mut ArrayVec<Authority, 32>, n: AuthorityNo)
-    ensures { authorities.new.items ≡ amended n.0 granted authorities.old.items }
-{
-    amend(
-        authorities,
-        n,
-        |a| Authority {
-            in_force: true,
-            workers_on: true,
-            ..a
-        },
-    );
-}
-
+// REQUEST: one more authority, pending.
+#[tactic(auto, unfolding(rules::specs::Board::board_of, rules::specs::Effects::effect))]
 pub fn request(register: &mut Register, kind: Kind, first: u16, last: u16, officer: u16)
     requires { HasPlace (board_of register.old) }
     ensures { board_of register.new ≡ effect (board_of register.old) (Some (Call.Request kind first last officer)) }
@@ -65,47 +34,42 @@ pub fn request(register: &mut Register, kind: Kind, first: u16, last: u16, offic
     });
 }
 
-pub fn withdraw(register: &mut Register, n: AuthorityNo)
-    ensures { (officer : ℕ) → board_of register.new ≡ effect (board_of register.old) (Some (Call.Withdraw n officer)) }
+// Takes out the authority with that number; the order of the others stays.
+pub fn end_authority(authorities: &mut Authorities, n: AuthorityNo)
+    ensures { authorities.new.items ≡ ended n.0 authorities.old.items }
 {
-    end_authority(&mut register.authorities, n);
+    authorities.retain(|a| a.number != n);
 }
 
-// AGREE, of the TWA, and JOIN, of the TOA: records the other authority with the one that has the number.
-pub fn set_agreed(register: &mut Register, n: AuthorityNo, other: AuthorityNo)
-    ensures { board_of register.new ≡ with_amended n.0 (with_agreed other) (board_of register.old) }
+// Changes the authority with that number by f, in its place; the others stay.
+fn amend<F: Fn(Authority) -> Authority>(authorities: &mut Authorities, n: AuthorityNo, f: F)
+    requires { F.IsAlwaysCallable f }
+    ensures { AmendedBy (F.post f) n.0 authorities.old.items authorities.new.items }
+{
+    change(authorities, |a| a.number == n, f);
+}
+
+// GRANT, and CONTINUE as new: in force, workers on.
+pub fn put_in_force(authorities: &mut Authorities, n: AuthorityNo)
+    ensures { authorities.new.items ≡ amended n.0 granted authorities.old.items }
 {
     amend(
-        &mut register.authorities,
+        authorities,
         n,
-        |a| Authority { agreed: other, ..a },
+        |a| Authority {
+            in_force: true,
+            workers_on: true,
+            ..a
+        },
     );
 }
 
-pub fn block(register: &mut Register, g: GateNo)
-    ensures { board_of register.new ≡ effect (board_of register.old) (Some (Call.Block g)) }
-{
-    register.blocks = sets::with(register.blocks, g.0);
-}
-
-pub fn unblock(register: &mut Register, g: GateNo)
-    ensures { board_of register.new ≡ effect (board_of register.old) (Some (Call.Unblock g)) }
-{
-    register.blocks = sets::without(register.blocks, g.0);
-}
-
-pub fn grant(register: &mut Register, n: AuthorityNo)
-    ensures { (officer : ℕ) → board_of register.new ≡ effect (board_of register.old) (Some (Call.Grant n officer)) }
-{
-    put_in_force(&mut register.authorities, n);
-}
-
-// CLEAR and REOCCUPY: sets the site of the authority with that number, workers on or clear.
-pub fn set_site(register: &mut Register, n: AuthorityNo, on: bool)
-    ensures { board_of register.new ≡ with_amended n.0 (with_site on) (board_of register.old) }
+// CLEAR and REOCCUPY: the site, workers on or clear.
+pub fn set_site(authorities: &mut Authorities, n: AuthorityNo, on: bool)
+    ensures { authorities.new.items ≡ amended n.0 (with_site on) authorities.old.items }
 {
     amend(
-        &mut register.authorities,
+        authorities,
         n,
         |a| Authority {
             workers_on: on,
@@ -114,29 +78,29 @@ pub fn set_site(register: &mut Register, n: AuthorityNo, on: bool)
     );
 }
 
-pub fn hand_over(register: &mut Register, n: AuthorityNo, into: u16)
-    ensures { (out : ℕ) → board_of register.new ≡ effect (board_of register.old) (Some (Call.HandOver n out into)) }
+// HAND OVER: the officer.
+pub fn set_officer(authorities: &mut Authorities, n: AuthorityNo, officer: u16)
+    ensures { authorities.new.items ≡ amended n.0 (with_officer officer) authorities.old.items }
 {
-    amend(
-        &mut register.authorities,
-        n,
-        |a| Authority { officer: into, ..a },
-    );
+    amend(authorities, n, |a| Authority { officer, ..a });
 }
 
-pub fn term(register: &mut Register, n: AuthorityNo, day: u16, time: u16, length: u16)
-    ensures { board_of register.new ≡ effect (board_of register.old) (Some (Call.Term n day time length)) }
+// AGREE, of the TWA, and JOIN, of the TOA: the authority whose officer agrees.
+pub fn set_agreed(authorities: &mut Authorities, n: AuthorityNo, agreed: AuthorityNo)
+    ensures { authorities.new.items ≡ amended n.0 (with_agreed agreed) authorities.old.items }
 {
-    let start = minute_of(day, time);
-    amend(
-        &mut register.authorities,
-        n,
-        |a| Authority { start, length, ..a },
-    );
+    amend(authorities, n, |a| Authority { agreed, ..a });
+}
+
+// TERM: the minute in which the term starts, and its length.
+pub fn set_term(authorities: &mut Authorities, n: AuthorityNo, start: u32, length: u16)
+    ensures { authorities.new.items ≡ amended n.0 (with_term start length) authorities.old.items }
+{
+    amend(authorities, n, |a| Authority { start, length, ..a });
 }
 
 // Stores the booking of the gate with that number, if the plan has such a gate.
-fn put_booking(bookings: &mut ArrayVec<Booking, 64>, g: GateNo, booking: Booking)
+pub fn put_booking(bookings: &mut ArrayVec<Booking, 64>, g: GateNo, booking: Booking)
     ensures { bookings.new.items ≡ set bookings.old.items g.0 booking }
 {
     if let Some(place) = bookings.get_mut(usize::from(g.0)) {
@@ -144,18 +108,8 @@ fn put_booking(bookings: &mut ArrayVec<Booking, 64>, g: GateNo, booking: Booking
     }
 }
 
-pub fn book_out(register: &mut Register, g: GateNo, paper: PaperNo)
-    ensures { board_of register.new ≡ effect (board_of register.old) (Some (Call.BookOut g paper)) }
-{
-    let booking = Booking {
-        paper,
-        replaced: PaperNo(0),
-    };
-    put_booking(&mut register.bookings, g, booking);
-}
-
 // The booking that BOOK IN leaves: none where the gate is certified, else the new paper with the call's beside it.
-fn booked_in(paper: PaperNo, certified: bool, new: PaperNo) -> Booking
+pub fn booked_in(paper: PaperNo, certified: bool, new: PaperNo) -> Booking
     ensures { result ≡ booked_in paper certified new }
 {
     if certified {
@@ -166,10 +120,4 @@ fn booked_in(paper: PaperNo, certified: bool, new: PaperNo) -> Booking
             replaced: paper,
         }
     }
-}
-
-pub fn book_in(register: &mut Register, g: GateNo, paper: PaperNo, certified: bool, new: PaperNo)
-    ensures { board_of register.new ≡ effect (board_of register.old) (Some (Call.BookIn g paper certified new)) }
-{
-    put_booking(&mut register.bookings, g, booked_in(paper, certified, new));
 }

@@ -1,18 +1,27 @@
 // What each accepted call does to the register.
 ghost use Rattle.std.specs.Prelude.{◌≡◌, Some};
-ghost use Rattle.rules.specs.Board.{board_of};
+ghost use Rattle.lists.specs.Search.{first};
+ghost use Rattle.rules.specs.Board.{board_of, is_authority, no_authority};
 ghost use Rattle.rules.specs.Effects.{effect};
 ghost use Rattle.effects.specs.Room.{RoomFor};
 
 use crate::changes::{
-    block, book_in, book_out, grant, hand_over, request, set_agreed, set_site, term, unblock,
-    withdraw,
+    booked_in, end_authority, put_booking, put_in_force, request, set_agreed, set_officer,
+    set_site, set_term,
 };
-use crate::running::{continue_as, fulfil, move_train, passed};
-use rules::{Call, Register};
+use crate::running::{continue_with, draw_in, free, go_through};
+use rules::{Authority, AuthorityNo, Booking, Call, PaperNo, Register};
+use stamps::minute_of;
+
+// The limits of the authority with that number.
+fn limits_of(authorities: &[Authority], n: AuthorityNo) -> u64
+    ensures { result ≡ (first (is_authority n.0) no_authority authorities.now).limits }
+{
+    authorities::find(authorities, n).unwrap_or_default().limits
+}
 
 // Does what the accepted call does, but for its stamp.
-#[tactic(auto, using(crate::proofs::Changing::clears, crate::proofs::Changing::reoccupies, crate::proofs::Changing::agrees, crate::proofs::Changing::joins))]
+#[tactic(auto, unfolding(rules::specs::Board::board_of, rules::specs::Board::authority, rules::specs::Board::train, rules::specs::Effects::effect))]
 pub fn effect_of(register: &mut Register, c: Call)
     requires { RoomFor (board_of register.old) c }
     ensures { board_of register.new ≡ effect (board_of register.old) (Some c) }
@@ -24,40 +33,67 @@ pub fn effect_of(register: &mut Register, c: Call)
             last,
             officer,
         } => request(register, kind, first, last, officer),
-        Call::Withdraw { authority, .. } => withdraw(register, authority),
-        Call::Agree { toa, twa, .. } => set_agreed(register, twa, toa),
-        Call::Block { gate } => block(register, gate),
-        Call::Unblock { gate } => unblock(register, gate),
-        Call::Grant { authority, .. } => grant(register, authority),
-        Call::Clear { authority, .. } => set_site(register, authority, false),
-        Call::Reoccupy { authority, .. } => set_site(register, authority, true),
+        Call::Withdraw { authority, .. } => end_authority(&mut register.authorities, authority),
+        Call::Agree { toa, twa, .. } => set_agreed(&mut register.authorities, twa, toa),
+        Call::Block { gate } => register.blocks = sets::with(register.blocks, gate.0),
+        Call::Unblock { gate } => register.blocks = sets::without(register.blocks, gate.0),
+        Call::Grant { authority, .. } => put_in_force(&mut register.authorities, authority),
+        Call::Clear { authority, .. } => set_site(&mut register.authorities, authority, false),
+        Call::Reoccupy { authority, .. } => set_site(&mut register.authorities, authority, true),
         Call::HandOver {
             authority,
             into,
             ..
-        } => hand_over(register, authority, into),
-        Call::Fulfil { authority, .. } => fulfil(register, authority),
-        Call::Continue { old, new, .. } => continue_as(register, old, new),
+        } => set_officer(&mut register.authorities, authority, into),
+        Call::Fulfil { authority, .. } => {
+            end_authority(&mut register.authorities, authority);
+            free(&mut register.trains, authority);
+        }
+        Call::Continue { old, new, .. } => {
+            let limits = limits_of(&register.authorities, new);
+            end_authority(&mut register.authorities, old);
+            put_in_force(&mut register.authorities, new);
+            continue_with(&mut register.trains, old, new, limits);
+        }
         Call::Move {
             train,
             gate,
             authority,
             ..
-        } => move_train(register, train, gate, authority),
-        Call::Passed { train } => passed(register, train),
+        } => {
+            let gate = gates::gate_at(&register.gates, gate);
+            go_through(&mut register.trains, gate, train, authority);
+        }
+        Call::Passed { train } => draw_in(&mut register.trains, train),
         Call::Term {
             authority,
             day,
             time,
             length,
-        } => term(register, authority, day, time, length),
-        Call::Join { twa, toa, .. } => set_agreed(register, toa, twa),
-        Call::BookOut { gate, paper } => book_out(register, gate, paper),
+        } => set_term(
+            &mut register.authorities,
+            authority,
+            minute_of(day, time),
+            length,
+        ),
+        Call::Join { twa, toa, .. } => set_agreed(&mut register.authorities, toa, twa),
+        Call::BookOut { gate, paper } => put_booking(
+            &mut register.bookings,
+            gate,
+            Booking {
+                paper,
+                replaced: PaperNo(0),
+            },
+        ),
         Call::BookIn {
             gate,
             paper,
             certified,
             new,
-        } => book_in(register, gate, paper, certified, new),
+        } => put_booking(
+            &mut register.bookings,
+            gate,
+            booked_in(paper, certified, new),
+        ),
     }
 }

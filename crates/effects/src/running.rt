@@ -1,26 +1,26 @@
-// The calls that change trains: FULFIL, CONTINUE, MOVE and PASSED.
-ghost use Rattle.std.specs.Prelude.{◌≡◌, ◌<◌, ℕ, Some, cond, find, length, position};
-ghost use Rattle.lists.specs.Order.{insert_by};
-ghost use Rattle.rules.specs.declared.Call.TheVariants as Call;
+// What FULFIL, CONTINUE, MOVE and PASSED change of trains.
+ghost use Rattle.std.specs.Prelude.{◌≡◌, ◌<◌, true, cond, length, position};
 ghost use Rattle.std.specs.Option.{unwrap_or};
+ghost use Rattle.lists.specs.Order.{insert_by};
+ghost use Rattle.lists.specs.Search.{first};
 ghost use Rattle.sets.specs.Sets.{has};
-ghost use Rattle.rules.specs.Board.{board_of, is_authority, is_train, no_authority, no_train, train_no};
+ghost use Rattle.rules.specs.Board.{gone, is_outside, is_train, moved, no_train, train_no};
 ghost use Rattle.rules.specs.Call.{authority_of};
-ghost use Rattle.rules.specs.Effects.{effect};
-ghost use Rattle.effects.specs.Room.{HasRoom, is_above};
+ghost use Rattle.rules.specs.Effects.{continued, entered, freed, with_head, with_rear_in};
+ghost use Rattle.effects.specs.Room.{is_above};
 
-use crate::changes::{end_authority, put_in_force};
 use arrayvec::ArrayVec;
 use lists::change;
-use rules::{AuthorityNo, GateNo, Register, Train, TrainNo};
+use rules::{AuthorityNo, Gate, Train, TrainNo};
 
-pub fn fulfil(register: &mut Register, n: AuthorityNo)
-    ensures { (officer assurances : ℕ) → board_of register.new
-        ≡ effect (board_of register.old) (Some (Call.Fulfil n officer assurances)) }
+type Trains = ArrayVec<Train, 32>;
+
+// FULFIL: the trains with the authority are then with 0.
+pub fn free(trains: &mut Trains, n: AuthorityNo)
+    ensures { trains.new.items ≡ freed n.0 trains.old.items }
 {
-    end_authority(&mut register.authorities, n);
     change(
-        &mut register.trains,
+        trains,
         |t| t.with == n,
         |t| Train {
             with: AuthorityNo(0),
@@ -40,17 +40,12 @@ fn authority_after(head: u16, new: AuthorityNo, limits: u64) -> AuthorityNo
     }
 }
 
-pub fn continue_as(register: &mut Register, old: AuthorityNo, new: AuthorityNo)
-    ensures { (officer_old officer_new : ℕ) → board_of register.new
-        ≡ effect (board_of register.old) (Some (Call.Continue old new officer_old officer_new)) }
+// CONTINUE: the trains with old are then with new if their head is in its limits, else with 0.
+pub fn continue_with(trains: &mut Trains, old: AuthorityNo, new: AuthorityNo, limits: u64)
+    ensures { trains.new.items ≡ continued old.0 new limits trains.old.items }
 {
-    let limits = authorities::find(&register.authorities, new)
-        .unwrap_or_default()
-        .limits;
-    end_authority(&mut register.authorities, old);
-    put_in_force(&mut register.authorities, new);
     change(
-        &mut register.trains,
+        trains,
         |t| t.with == old,
         |t| Train {
             with: authority_after(t.head, new, limits),
@@ -67,7 +62,7 @@ fn first_above(trains: &[Train], n: TrainNo) -> Option<usize>
 }
 
 // One more train, put before the first with a higher number.
-fn insert_train(trains: &mut ArrayVec<Train, 32>, t: Train)
+fn insert_train(trains: &mut Trains, t: Train)
     requires { length trains.old.items < 32 }
     ensures { trains.new.items ≡ insert_by train_no t trains.old.items }
 {
@@ -75,14 +70,15 @@ fn insert_train(trains: &mut ArrayVec<Train, 32>, t: Train)
     trains.insert(place, t);
 }
 
-pub fn move_train(register: &mut Register, t: TrainNo, g: GateNo, n: AuthorityNo)
-    requires { HasRoom (board_of register.old) g.0 }
-    ensures { (officer : ℕ) → board_of register.new ≡ effect (board_of register.old) (Some (Call.Move t g n officer)) }
+// MOVE through the gate: from outside the train comes to its place on the board, else its head goes on; it is with n.
+pub fn go_through(trains: &mut Trains, gate: Gate, t: TrainNo, n: AuthorityNo)
+    requires { is_outside gate.from ≡ true → length trains.old.items < 32 }
+    ensures { trains.new.items ≡ cond (is_outside gate.from) (insert_by train_no (entered t gate.to n) trains.old.items)
+        (moved t.0 (with_head gate.to n) trains.old.items) }
 {
-    let gate = gates::gate_at(&register.gates, g);
     if gate.from == 99 {
         insert_train(
-            &mut register.trains,
+            trains,
             Train {
                 number: t,
                 head: gate.to,
@@ -92,7 +88,7 @@ pub fn move_train(register: &mut Register, t: TrainNo, g: GateNo, n: AuthorityNo
         );
     } else {
         change(
-            &mut register.trains,
+            trains,
             |x| x.number == t,
             |x| Train {
                 head: gate.to,
@@ -103,17 +99,15 @@ pub fn move_train(register: &mut Register, t: TrainNo, g: GateNo, n: AuthorityNo
     }
 }
 
-pub fn passed(register: &mut Register, t: TrainNo)
-    ensures { board_of register.new ≡ effect (board_of register.old) (Some (Call.Passed t)) }
+// PASSED: rear becomes head; a head outside takes the train off.
+pub fn draw_in(trains: &mut Trains, t: TrainNo)
+    ensures { let ts = trains.old.items in
+        trains.new.items ≡ cond (is_outside (first (is_train t.0) no_train ts).head) (gone t.0 ts) (moved t.0 with_rear_in ts) }
 {
-    let train = trains::find_train(&register.trains, t).unwrap_or_default();
+    let train = trains::find_train(trains, t).unwrap_or_default();
     if train.head == 99 {
-        register.trains.retain(|x| x.number != t);
+        trains.retain(|x| x.number != t);
     } else {
-        change(
-            &mut register.trains,
-            |x| x.number == t,
-            |x| Train { rear: x.head, ..x },
-        );
+        change(trains, |x| x.number == t, |x| Train { rear: x.head, ..x });
     }
 }
