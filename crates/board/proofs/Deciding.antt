@@ -1,5 +1,7 @@
--- A call in the steps of the code: what the decoded call says of the answer, and what a call with room for its line leaves. Assumes nothing.
-use Rattle.std.proofs.Common.{◌≡◌, refl, sym, ap, subst, ◌∙◌, ℕ, suc, Bool, true, false, cond, ◌∷◌, length, eqb, eq-eqb, ne_eqb, arith, Option, Some, None, Result, Ok, Err}
+-- A call in the steps of the code: what the decoded call says of the answer, and what a call with room for its line
+-- leaves. Assumes nothing.
+use Rattle.std.proofs.Common.{◌≡◌, refl, sym, ap, subst, ◌∙◌, ℕ, suc, Bool, true, false, cond, ◌∷◌, length, eqb, eq-eqb}
+use Rattle.std.proofs.Common.{ne_eqb, arith, Option, Some, None, Result, Ok, Err}
 use Rattle.std.proofs.Common.{zero, ⊎_elim, drop}
 use lib.ListN.{get_or-eq_default}
 use Rattle.std.specs.Option.{ok_or}
@@ -14,7 +16,8 @@ use Rattle.rules.specs.declared.refusal.Refusal as Refused
 use Rattle.rules.specs.declared.refusal.Refusal.TheVariants as Word
 use Rattle.rules.specs.declared.refusal.Refusal.TheVariants.{NoSuchCall, Field}
 use Rattle.rules.specs.declared.AuthorityNo.{AuthorityNo}
-use Rattle.rules.specs.declared.Call.TheVariants.{Request, Withdraw, Agree, Block, Unblock, Grant, Clear, Reoccupy, HandOver, Fulfil, Continue, Move, Passed, Term, Join, BookOut, BookIn}
+use Rattle.rules.specs.declared.Call.TheVariants.{Request, Withdraw, Agree, Block, Unblock, Grant, Clear, Reoccupy}
+use Rattle.rules.specs.declared.Call.TheVariants.{HandOver, Fulfil, Continue, Move, Passed, Term, Join, BookOut, BookIn}
 use Rattle.rules.specs.declared.Register.{Register}
 use Rattle.rules.specs.Board.{Board, board_of, with_stamp}
 use Rattle.rules.specs.declared.kind.Kind.{Kind}

@@ -1,6 +1,6 @@
--- The run of a board, over the functions themselves: a step of `Ran` is the plain reading that Rattle makes of what `open` or `call`
--- ensures, at any argument: any plan text, any seven numbers, any buffer. Nothing else is known of a step. Demands 1, 2 and 3 are
--- theorems about every `Ran`. Assumes nothing.
+-- The run of a board, over the functions themselves: a step of `Ran` is the plain reading that Rattle makes of what
+-- `open` or `call` ensures, at any argument: any plan text, any seven numbers, any buffer. Nothing else is known of a
+-- step. Demands 1, 2 and 3 are theorems about every `Ran`. Assumes nothing.
 use Prim.Native.Nat.{ℕ, ◌≤◌, ◌<◌}
 use mathlib.Core.Path.{◌≡◌, refl, sym, ap, ap₂, subst, subst₂, ◌∙◌}
 use mathlib.Core.Bool.{Bool, true, false, or-false}
@@ -32,7 +32,8 @@ use Rattle.rules.specs.Answer.{answer_no, number_no}
 use Rattle.rules.specs.Step.{Made, Answered, after, trace, final, Kept}
 use Rattle.rules.specs.Reckoning.{start, reckoned}
 use Rattle.rules.specs.Claim.{Safe}
-use Rattle.rules.proofs.Answers.{NoneHolds, Refused, accepted_none, none_accepted, refused_lowest, lowest_refused, refused_same, refused_none, short_line, long_line}
+use Rattle.rules.proofs.Answers.{NoneHolds, Refused, accepted_none, none_accepted, refused_lowest, lowest_refused}
+use Rattle.rules.proofs.Answers.{refused_same, refused_none, short_line, long_line}
 use Rattle.rules.proofs.Once.{held_once}
 use Rattle.rules.proofs.Equality.{equal_same, NoneOfLpas, same_equal}
 use Rattle.rules.proofs.Safety.{demand_3}
@@ -51,7 +52,8 @@ made s buffer = record { seven = s; room = length buffer }
 abbrev pub answered : Seven → ℕ → Answered
 answered s a = record { seven = s; answer = a }
 
--- a board opened from a text and a list of calls made on it, in order, with their answers, and the register that the last one returned
+-- a board opened from a text and a list of calls made on it, in order, with their answers, and the register that the
+-- last one returned
 pub data Ran : List ℕ → List Made → List Answered → Register → Type 0 where
   ran_open : (κs : Lfts 1) (a : Dens κs open-kinds.ps) (r : Opened) (x : AtExit (ended_of 1 open-kinds.ps open-kinds.r) κs) → open-reads.Post κs a r x
       → Ran a.0.now [] [] r.register
@@ -69,7 +71,8 @@ ran_kept (ran_call κs a out x h p) = p.kept
 pub ran_asked : {text : List ℕ} {ms : List Made} {cs : List Answered} (κs : Lfts 1) (a : Dens κs call-kinds.ps) → Ran text ms cs a.0 → call-reads.Pre κs a
 ran_asked κs a h = ran_kept h
 
--- THEOREM, order 5: live authorities and trains of every register that `open` or `call` returned are held by ascending number, and so each once
+-- THEOREM, order 5: live authorities and trains of every register that `open` or `call` returned are held by ascending
+-- number, and so each once
 pub ran_ascending : {text : List ℕ} {ms : List Made} {cs : List Answered} {r : Register} → Ran text ms cs r
     → Ascending authority_no (board_of r).authorities × Ascending train_no (board_of r).trains
 ran_ascending h = let o = (ran_kept h).once in (o.authorities, o.trains)
@@ -99,7 +102,8 @@ ran_trace {text} (ran_call {ms = ms} {cs = cs} κs a out x h p) =
 
 -- ---- demand 3, one claim about the whole list
 
--- THEOREM, demand 3: after every list of calls on a board opened from any plan text, what is reckoned from the calls and their answers is safe
+-- THEOREM, demand 3: after every list of calls on a board opened from any plan text, what is reckoned from the calls
+-- and their answers is safe
 pub ran_safe : {text : List ℕ} {ms : List Made} {cs : List Answered} {r : Register} → Ran text ms cs r
     → Safe (open_board text).gates (reckoned (open_board text).gates start cs)
 ran_safe {text} {ms} h =
@@ -107,8 +111,8 @@ ran_safe {text} {ms} h =
 
 -- ---- order 6, bookings
 
--- THEOREM: each gate of every register that `open` or `call` returned has a place for its booking, only plain automatic signals are out, and each gate
--- whose block is on can be blocked
+-- THEOREM: each gate of every register that `open` or `call` returned has a place for its booking, only plain automatic
+-- signals are out, and each gate whose block is on can be blocked
 pub ran_booked : {text : List ℕ} {ms : List Made} {cs : List Answered} {r : Register} → Ran text ms cs r → Booked (board_of r)
 ran_booked {text} {ms} h = subst Booked (sym (ran_board h)) (list_booked text ms)
 
@@ -120,7 +124,8 @@ needed_trace : {text : List ℕ} {ms : List Made} {cs : List Answered} {r : Regi
     → Needed text (trace (open_board text) ms) n g
 needed_trace {text} {n = n} {g = g} h k = subst (λ (l : List Answered). Needed text l n g) (ran_trace h) k
 
--- THEOREM: "Limits in force stay protected through both calls.": after every list of calls such a gate is blocked, and can be blocked
+-- THEOREM: "Limits in force stay protected through both calls.": after every list of calls such a gate is blocked, and
+-- can be blocked
 pub ran_protected : {text : List ℕ} {ms : List Made} {cs : List Answered} {r : Register} → Ran text ms cs r → (n g : ℕ) → Needed text cs n g
     → (has g (board_of r).blocks ≡ true) × (can_be_blocked (board_of r) g ≡ true)
 ran_protected {text} {ms} h n g k =
@@ -128,8 +133,8 @@ ran_protected {text} {ms} h n g k =
 
 -- ---- order 7, agreements
 
--- THEOREM: the number that each live authority of every register that `open` or `call` returned has recorded is the one that its last AGREE or JOIN
--- names, 0 for none, read off the calls of the run and their answers
+-- THEOREM: the number that each live authority of every register that `open` or `call` returned has recorded is the one
+-- that its last AGREE or JOIN names, 0 for none, read off the calls of the run and their answers
 pub ran_agreements : {text : List ℕ} {ms : List Made} {cs : List Answered} {r : Register} → Ran text ms cs r
     → (o : Authority) → Member o (board_of r).authorities → Recorded (reckoned (open_board text).gates start cs).authority o
 ran_agreements {text} {ms} h o m =
@@ -162,14 +167,16 @@ module _ (κs : Lfts 1) (a : Dens κs call-kinds.ps) (out : Called) (x : AtExit 
   abbrev room : ℕ
   room = length buffer
 
-  -- demand 2: accepted if and only if no condition holds; refused with n if and only if condition n holds and none lower does
+  -- demand 2: accepted if and only if no condition holds; refused with n if and only if condition n holds and none
+  -- lower does
   pub accepted_iff : ((answer_no out.answer) ≡ 0 → NoneHolds (conditions b s room)) × (NoneHolds (conditions b s room) → (answer_no out.answer) ≡ 0)
   accepted_iff = (λ e. accepted_none b s room (sym p.answered ∙ e), λ h. p.answered ∙ none_accepted b s room h)
 
   pub refused_iff : (n : ℕ) → (0 < n → (answer_no out.answer) ≡ n → Refused n (conditions b s room)) × (Refused n (conditions b s room) → (answer_no out.answer) ≡ n)
   refused_iff n = (λ h e. refused_lowest b s room n (sym p.answered ∙ e) h, λ h. p.answered ∙ lowest_refused b s room n h)
 
-  -- demand 1: what a call returns and writes is 01's; a refused one returns the register as it was, and authority number 0
+  -- demand 1: what a call returns and writes is 01's; a refused one returns the register as it was, and authority
+  -- number 0
   pub returns_same : Same (board_of out.register) (after b s room)
   returns_same = equal_same (board_of out.register) (after b s room) p.board
 
@@ -190,8 +197,8 @@ module _ (κs : Lfts 1) (a : Dens κs call-kinds.ps) (out : Called) (x : AtExit 
   not_restored {text} {ms} h n g k paper new is e =
       needed_not_restored text ms n g (needed_trace h k) s room paper new is (subst (λ (b : Board). answer b s room ≡ 0) (ran_board h) (sym p.answered ∙ e))
 
-  -- orders 1 and 7: an authority that the call did not end is held after it, in force if it was, with the term that it had and, in force or unless the
-  -- call recorded another with it, with the agreement that it had recorded
+  -- orders 1 and 7: an authority that the call did not end is held after it, in force if it was, with the term that it
+  -- had and, in force or unless the call recorded another with it, with the agreement that it had recorded
   pub authority_kept : Kept a.0 → (o : Authority) → Member o b.authorities → ended_by (authority_no o) (answered s (answer_no out.answer)) ≡ false
       → StaysIn (agreed_by (authority_no o) (answered s (answer_no out.answer))) o (board_of out.register).authorities
   unfolding trace final

@@ -22,7 +22,8 @@ pub record Allowed (b : Board) (s : Seven) (r : Result Call Refusal) : Type 0 wh
   pub free : IfOk r (λ c. lowest (own b s (Some c)) ≡ 0)
 
 -- a call with room for its line (55 bytes): the register after it, and what is answered
-pub record TakePost (before : Register) (s : Seven) (register : Register) (given : Result (Option AuthorityNo) Refusal) : Type 0 where
+pub record TakePost
+    (before : Register) (s : Seven) (register : Register) (given : Result (Option AuthorityNo) Refusal) : Type 0 where
   pub board : board_of register ≡ after (board_of before) s 55
   pub answered : answer_no given ≡ answer (board_of before) s 55
   pub number : number_no given ≡ allotted (board_of before) s 55

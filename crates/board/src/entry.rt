@@ -5,6 +5,7 @@ ghost use Rattle.rules.specs.Board.{board_of, opened};
 ghost use Rattle.rules.specs.Journal.{journal_line};
 ghost use Rattle.rules.specs.Step.{Kept, OpenPost, CallPost};
 
+use crate::taking::take;
 use arrayvec::ArrayVec;
 use plan::{Plan, read_plan};
 use rules::{
@@ -90,7 +91,7 @@ pub fn call(mut register: Register, seven: Seven, line: &mut [u8]) -> Called
             answer: Err(Refusal::ShortLine),
         };
     }
-    let answer = crate::taking::take(&mut register, seven);
+    let answer = take(&mut register, seven);
     write_journal(line, seven, answer);
     Called { register, answer }
 }

@@ -1,5 +1,6 @@
--- A function whose first parameter is a `&mut [T; k]` may take the list behind it to have k elements: the borrow is opened on entry, and shut
--- again. The check hands goals that fact itself; this is the rule for a proof that walks the code. Assumes the logic's `Logic`, as every proof of code.
+-- A function whose first parameter is a `&mut [T; k]` may take the list behind it to have k elements: the borrow is
+-- opened on entry, and shut again. The check hands goals that fact itself; this is the rule for a proof that walks the
+-- code. Assumes the logic's `Logic`, as every proof of code.
 use Prim.Native.Nat.{ℕ}
 use mathlib.Core.Path.{◌≡◌, refl}
 use mathlib.Core.List.{List, [], ◌∷◌}
@@ -10,7 +11,8 @@ use base.Logic.{ent, sep, guard}
 use base.Fml.{Lft, Share, flft}
 use prog.Wp.{Env, Tables, WpFn}
 use types.Logic.{Logic, sem}
-use types.Kit.{◌$◌, !, ◌∵◌, ‵, ◌⊛◌, qed, by, move, use2, given, learn, check, split, join, fsplit, fjoin, later, await, updating, now, done}
+use types.Kit.{◌$◌, !, ◌∵◌, ‵, ◌⊛◌, qed, by, move, use2, given, learn, check, split, join, fsplit, fjoin, later, await}
+use types.Kit.{updating, now, done}
 use contract.Lifetimes.{Lfts, Shares, AllOutlive}
 use denote.RattleType.{RattleType}
 use denote.Array.{Array}

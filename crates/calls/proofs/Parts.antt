@@ -1,4 +1,5 @@
--- Laws of a run: one call more, a malformed line, and a text run in parts, which is the text run as one. Assumes nothing.
+-- Laws of a run: one call more, a malformed line, and a text run in parts, which is the text run as one. Assumes
+-- nothing.
 use Prim.Native.Nat.{ℕ, zero, suc, ◌+◌, ◌*◌}
 use native.Mathlib.Nat.{zero-add, suc-add, add_assoc}
 use native.Mathlib.Omega.{arith}
@@ -144,8 +145,8 @@ unfolding journal trace allotted_in lines_of
 run_trace b [] = refl
 run_trace b (c ∷ calls) = ap (λ (l : List ℕ). line_on b c ++ l) (run_trace (after b c 55) calls)
 
--- THEOREM, demand 3 for a text of calls: on a board opened from any plan, what is reckoned from its calls and their answers, which are
--- those that the journal shows, is safe
+-- THEOREM, demand 3 for a text of calls: on a board opened from any plan, what is reckoned from its calls and their
+-- answers, which are those that the journal shows, is safe
 pub run_safe : (plan text : List ℕ) (n : ℕ)
     → Safe (open_board plan).gates (reckoned (open_board plan).gates start (trace (open_board plan) (map made (calls_in n text))))
 run_safe plan text n = demand_3 plan (map made (calls_in n text))

@@ -18,6 +18,7 @@ seven_of ns = record {
   d = get_or ns 6 0;
 }
 
--- what a line holds: "the seven numbers in the same columns, 43 bytes a line"; "a number above 65535 makes" a malformed one
+-- what a line holds: "the seven numbers in the same columns, 43 bytes a line"; "a number above 65535 makes" a malformed
+-- one
 unfoldable pub line_in : List ℕ → Option Seven
 line_in s = cond (row_of 65535 call_widths s).whole (Some (seven_of (row_of 65535 call_widths s).numbers)) None

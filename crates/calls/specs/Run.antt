@@ -1,4 +1,5 @@
--- The run of a text of calls: the journal's lines, and the board after the last call (01, "The journal"). Assumes nothing.
+-- The run of a text of calls: the journal's lines, and the board after the last call (01, "The journal"). Assumes
+-- nothing.
 use Rattle.std.specs.Prelude.{ℕ, ◌+◌, ◌*◌, ◌/◌, ◌≡◌, Bool, not, cond, List, [], ◌∷◌, ◌++◌, map, length, drop, eqb}
 use Rattle.rules.specs.declared.Seven.{Seven}
 use Rattle.rules.specs.declared.Register.{Register}
@@ -17,7 +18,8 @@ unfoldable pub journal : Board → List Seven → List ℕ
 journal b [] = []
 journal b (s ∷ calls) = journal_line s (answer b s 55) (allotted b s 55) ++ journal (after b s 55) calls
 
--- a run: the board after it, its journal, how many calls it made, and whether it stopped before as many as it might have made
+-- a run: the board after it, its journal, how many calls it made, and whether it stopped before as many as it might
+-- have made
 pub record Run : Type 0 where
   pub board : Board
   pub text : List ℕ
@@ -46,9 +48,10 @@ r then_run s = cond r.stopped r (record {
   stopped = s.stopped;
 })
 
--- what a run over a text leaves, with a buffer for the lines: as many calls are made at most as the buffer has room for lines of 55
--- bytes, their lines are at its front, and its later bytes stay
-pub record RunPost (before : Register) (text buffer : List ℕ) (register : Register) (count : ℕ) (buffer' : List ℕ) : Type 0 where
+-- what a run over a text leaves, with a buffer for the lines: as many calls are made at most as the buffer has room for
+-- lines of 55 bytes, their lines are at its front, and its later bytes stay
+pub record RunPost
+    (before : Register) (text buffer : List ℕ) (register : Register) (count : ℕ) (buffer' : List ℕ) : Type 0 where
   pub board : board_of register ≡ (run_of (length buffer / 55) (board_of before) text).board
   pub lines : count ≡ (run_of (length buffer / 55) (board_of before) text).lines
   pub bytes : buffer' ≡ (run_of (length buffer / 55) (board_of before) text).text ++ drop (55 * count) buffer

@@ -1,5 +1,5 @@
--- Worked examples, computed: 01's journal line E1 byte for byte, and read back; texts that are and are not numbers in columns; cells of a page.
--- Assumes nothing.
+-- Worked examples, computed: 01's journal line E1 byte for byte, and read back; texts that are and are not numbers in
+-- columns; cells of a page. Assumes nothing.
 use mathlib.Core.Path.{◌≡◌, refl}
 use mathlib.Core.Bool.{true, false}
 use mathlib.Core.List.{List, [], ◌∷◌}

@@ -1,5 +1,5 @@
--- The steps of the code that writes: its table, a column filled from its last byte on, a line counted and then filled number by number.
--- Only the proofs of `src/write.rt` cite these. Assumes nothing.
+-- The steps of the code that writes: its table, a column filled from its last byte on, a line counted and then filled
+-- number by number. Only the proofs of `src/write.rt` cite these. Assumes nothing.
 use Rattle.std.specs.Prelude.{Option, Some, None}
 use mathlib.Core.Path.{◌≡◌, refl, sym, ap, ◌∙◌}
 use mathlib.Core.Logic.{inl, inr}
@@ -16,7 +16,8 @@ use Rattle.lists.proofs.Tests.{truth, same_test, and_l, and_r}
 use Rattle.columns.specs.Column.{digits, column, fits}
 use Rattle.columns.specs.Line.{line, all_fit, writable, with_line, Written}
 use Rattle.columns.specs.Steps.{mark}
-use Rattle.columns.proofs.Writing.{count_some, fits_below, below_fits, column-length, part_done, front, column-front, total, line-length, writable_known}
+use Rattle.columns.proofs.Writing.{count_some, fits_below, below_fits, column-length, part_done, front, column-front}
+use Rattle.columns.proofs.Writing.{total, line-length, writable_known}
 
 -- ---- the table
 -- k entries, each ten times the one before it, from p on

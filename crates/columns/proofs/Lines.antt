@@ -1,4 +1,5 @@
--- The lines of a text, each as long as the others, as a loop takes them: chunk by chunk off what is left. Assumes nothing.
+-- The lines of a text, each as long as the others, as a loop takes them: chunk by chunk off what is left. Assumes
+-- nothing.
 use Prim.Native.Nat.{ℕ, ◌+◌, ◌*◌, ◌≤◌, ◌<◌}
 use native.Mathlib.Omega.{arith}
 use native.Mathlib.Numerals.{add-one}

@@ -1,4 +1,5 @@
--- Laws of reading a column, for every number, width and greatest number; then that the scan of the code reads the same. Assumes nothing.
+-- Laws of reading a column, for every number, width and greatest number; then that the scan of the code reads the same.
+-- Assumes nothing.
 use mathlib.Core.Path.{◌≡◌, refl, sym, ap, ◌∙◌}
 use mathlib.Core.Bool.{Bool, true, false, cond, ◌&&◌, false≢true, and-true, and-false}
 use mathlib.Core.List.{List, [], ◌∷◌, ◌++◌}

@@ -1,4 +1,5 @@
--- Laws of reading a row of columns, each for all numbers, widths and greatest numbers, and the steps of the loop that reads one. Assumes nothing.
+-- Laws of reading a row of columns, each for all numbers, widths and greatest numbers, and the steps of the loop that
+-- reads one. Assumes nothing.
 use mathlib.Core.Path.{◌≡◌, refl, sym, ap, ap₂, ◌∙◌}
 use mathlib.Core.Bool.{Bool, true, false, cond, ◌&&◌, false≢true, and-true, and-false}
 use mathlib.Core.List.{List, [], ◌∷◌, ◌++◌, append_assoc, append-nil}

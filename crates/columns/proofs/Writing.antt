@@ -1,5 +1,5 @@
--- Laws of writing, for every number and width: which numbers fit, how long a column and a line are, and when a line can be written.
--- Assumes nothing.
+-- Laws of writing, for every number and width: which numbers fit, how long a column and a line are, and when a line can
+-- be written. Assumes nothing.
 use mathlib.Core.Path.{◌≡◌, refl, sym, ap, ap₂, ◌∙◌}
 use mathlib.Core.Logic.{inl, inr}
 use mathlib.Core.Bool.{Bool, true, false≢true}

@@ -1,5 +1,7 @@
--- A cell of a page: a number, a number behind a minus sign, or nothing, right-justified in fixed columns; and a line of cells. Assumes nothing.
-use Rattle.std.specs.Prelude.{ℕ, ◌-◌, Bool, true, false, cond, not, ◌&&◌, List, [], ◌∷◌, ◌++◌, ◌≡◌, eqb, leb, ltb, length, replicate}
+-- A cell of a page: a number, a number behind a minus sign, or nothing, right-justified in fixed columns; and a line of
+-- cells. Assumes nothing.
+use Rattle.std.specs.Prelude.{ℕ, ◌-◌, Bool, true, false, cond, not, ◌&&◌, List, [], ◌∷◌, ◌++◌, ◌≡◌, eqb, leb, ltb}
+use Rattle.std.specs.Prelude.{length, replicate}
 use Rattle.lists.specs.Search.{any}
 use Rattle.columns.specs.Column.{digits}
 use Rattle.columns.specs.Reading.{value_from}
@@ -24,7 +26,8 @@ cell w c = replicate (w - length (marks c)) 32 ++ marks c
 unfoldable pub cell_fits : ℕ → Cell → Bool
 cell_fits w c = leb (length (marks c)) w
 
--- what filling a lent text with a cell answers, and the text that it leaves: one that the cell does not fit stays as it was
+-- what filling a lent text with a cell answers, and the text that it leaves: one that the cell does not fit stays as it
+-- was
 pub record Filled (before : List ℕ) (c : Cell) (after : List ℕ) (answer : Bool) : Type 0 where
   pub answered : answer ≡ cell_fits (length before) c
   pub bytes : after ≡ cond (cell_fits (length before) c) (cell (length before) c) before
@@ -50,7 +53,7 @@ is_minus b = eqb b 45
 abbrev pub is_printed : ℕ → Bool
 is_printed b = not (eqb b 32)
 
--- the cell in a text that `cell` wrote: nothing where every byte is a blank, else the number that its digits make, behind a minus sign where
--- there is one
+-- the cell in a text that `cell` wrote: nothing where every byte is a blank, else the number that its digits make,
+-- behind a minus sign where there is one
 unfoldable pub cell_in : List ℕ → Cell
 cell_in s = cond (any is_printed s) (cond (any is_minus s) (Minus (value_from 0 s)) (Number (value_from 0 s))) Empty

@@ -1,6 +1,7 @@
--- A number written to base ten in fixed columns: right-justified behind blanks, no leading zeros, 0 as one digit; and a lent text that one
--- is written to. Assumes nothing.
-use Rattle.std.specs.Prelude.{ℕ, zero, suc, ◌+◌, ◌-◌, ◌/◌, ◌%◌, Bool, true, false, cond, List, [], ◌∷◌, ◌++◌, ◌≡◌, leb, ltb, length, replicate}
+-- A number written to base ten in fixed columns: right-justified behind blanks, no leading zeros, 0 as one digit; and a
+-- lent text that one is written to. Assumes nothing.
+use Rattle.std.specs.Prelude.{ℕ, zero, suc, ◌+◌, ◌-◌, ◌/◌, ◌%◌, Bool, true, false, cond, List, [], ◌∷◌, ◌++◌, ◌≡◌, leb}
+use Rattle.std.specs.Prelude.{ltb, length, replicate}
 
 -- the digits of n as bytes (48 is the byte of the digit 0), at most k of them
 unfoldable pub digits_in : ℕ → ℕ → List ℕ
@@ -19,7 +20,8 @@ column w n = replicate (w - length (digits n)) 32 ++ digits n
 unfoldable pub fits : ℕ → ℕ → Bool
 fits w n = leb (length (digits n)) w
 
--- what filling a lent text with a number answers, and the text that it leaves: one that the number does not fit stays as it was
+-- what filling a lent text with a number answers, and the text that it leaves: one that the number does not fit stays
+-- as it was
 pub record ColumnFilled (before : List ℕ) (n : ℕ) (after : List ℕ) (answer : Bool) : Type 0 where
   pub answered : answer ≡ fits (length before) n
   pub bytes : after ≡ cond (fits (length before) n) (column (length before) n) before

@@ -1,5 +1,6 @@
 -- Reading numbers in columns: a text is a number where it is what `column` writes for that number. Assumes nothing.
-use Rattle.std.specs.Prelude.{ℕ, suc, ◌+◌, ◌-◌, ◌*◌, Bool, true, false, cond, ◌&&◌, List, [], ◌∷◌, eqb, leb, ltb, length, take, drop, Option, Some, None}
+use Rattle.std.specs.Prelude.{ℕ, suc, ◌+◌, ◌-◌, ◌*◌, Bool, true, false, cond, ◌&&◌, List, [], ◌∷◌, eqb, leb, ltb}
+use Rattle.std.specs.Prelude.{length, take, drop, Option, Some, None}
 use Rattle.columns.specs.Column.{column}
 
 -- two texts are the same, byte for byte

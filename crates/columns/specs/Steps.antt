@@ -1,6 +1,7 @@
--- What single steps of the code compute. Only the contracts of private functions cite these; the laws in proofs/ tie them to
--- `column` and `read_column`, so a reader of the public contracts need not believe them. Assumes nothing.
-use Rattle.std.specs.Prelude.{ℕ, ◌+◌, ◌-◌, ◌*◌, ◌%◌, cond, eqb, leb, Bool, true, false, ◌&&◌, List, [], ◌∷◌, Option, Some, None}
+-- What single steps of the code compute. Only the contracts of private functions cite these; the laws in proofs/ tie
+-- them to `column` and `read_column`, so a reader of the public contracts need not believe them. Assumes nothing.
+use Rattle.std.specs.Prelude.{ℕ, ◌+◌, ◌-◌, ◌*◌, ◌%◌, cond, eqb, leb, Bool, true, false, ◌&&◌, List, [], ◌∷◌, Option}
+use Rattle.std.specs.Prelude.{Some, None}
 
 -- the byte of a column before the last, for what is left of a number: a blank for nothing, else its last digit
 abbrev pub mark : ℕ → ℕ

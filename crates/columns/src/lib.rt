@@ -1,5 +1,5 @@
-// Numbers in fixed columns of text, right-justified behind blanks: columns and lines of them written, rows of them read,
-// and the cells of a page, a number, one behind a minus sign or nothing.
+// Numbers in fixed columns of text, right-justified behind blanks: columns and lines of them written, rows of them
+// read, and the cells of a page, a number, one behind a minus sign or nothing.
 #![tactic(auto)]
 
 mod cells;

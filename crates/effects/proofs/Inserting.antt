@@ -1,5 +1,6 @@
 -- An element put before the first with a higher number. Assumes nothing.
-use Rattle.std.proofs.Common.{◌≡◌, refl, ◌≤◌, ℕ, suc, ◌+◌, Bool, true, false, cond, not, ltb, ltb-false, List, [], ◌∷◌, length, arith, Some, None}
+use Rattle.std.proofs.Common.{◌≡◌, refl, ◌≤◌, ℕ, suc, ◌+◌, Bool, true, false, cond, not, ltb, ltb-false, List, [], ◌∷◌}
+use Rattle.std.proofs.Common.{length, arith, Some, None}
 use Rattle.std.specs.List.{position_or_len, position, insert}
 use Rattle.std.specs.Option.{unwrap_or}
 use Rattle.std.proofs.lemmas.List.Sums.{prefix_len-le-length}

@@ -102,7 +102,8 @@ pub fn go_through(trains: &mut Trains, gate: Gate, t: TrainNo, n: AuthorityNo)
 // PASSED: rear becomes head; a head outside takes the train off.
 pub fn draw_in(trains: &mut Trains, t: TrainNo)
     ensures { let ts = trains.old.items in
-        trains.new.items ≡ cond (is_outside (first (is_train t.0) no_train ts).head) (gone t.0 ts) (moved t.0 with_rear_in ts) }
+        trains.new.items
+        ≡ cond (is_outside (first (is_train t.0) no_train ts).head) (gone t.0 ts) (moved t.0 with_rear_in ts) }
 {
     let train = trains::find_train(trains, t).unwrap_or_default();
     if train.head == 99 {

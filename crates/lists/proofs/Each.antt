@@ -1,5 +1,6 @@
 -- Laws of two lists that a relation ties element by element. Assumes nothing.
-use Rattle.std.proofs.Common.{◌≡◌, refl, inl, inr, Bool, true, false, cond, ℕ, zero, suc, ◌<◌, List, [], ◌∷◌, take, drop, set, length, get_or, arith, subst}
+use Rattle.std.proofs.Common.{◌≡◌, refl, inl, inr, Bool, true, false, cond, ℕ, zero, suc, ◌<◌, List, [], ◌∷◌, take}
+use Rattle.std.proofs.Common.{drop, set, length, get_or, arith, subst}
 use Rattle.lists.specs.Each.{EachGives, ChangesTo, ChangedWhere}
 use Rattle.lists.specs.Search.{change}
 

@@ -1,4 +1,5 @@
--- Elements held by ascending number: what keeps them so, and what it tells; and who stands where one has been inserted. Assumes nothing.
+-- Elements held by ascending number: what keeps them so, and what it tells; and who stands where one has been inserted.
+-- Assumes nothing.
 use Prim.Native.Nat.{ℕ, zero, suc, ◌<◌}
 use native.Mathlib.Omega.{arith}
 use mathlib.Core.Path.{◌≡◌, refl, ap}

@@ -1,4 +1,5 @@
--- Laws of the searches and changes of specs/Search.antt: by membership, and for two lists one behind the other. Assumes nothing.
+-- Laws of the searches and changes of specs/Search.antt: by membership, and for two lists one behind the other. Assumes
+-- nothing.
 use Prim.Native.Nat.{ℕ, zero, suc, ◌≤◌, ◌<◌}
 use native.Mathlib.Nat.{eq-or-lt_of_le, le_of_suc-le-suc}
 use native.Mathlib.Omega.{arith}
@@ -130,7 +131,8 @@ module _ {A : Type 0} where
   each_step P f x true old new = new refl
   each_step P f x false old new = old refl
 
-  -- what holds of each element that the test leaves, and of f of each that passes it, holds of each element of the changed list
+  -- what holds of each element that the test leaves, and of f of each that passes it, holds of each element of the
+  -- changed list
   pub change_each : (P : A → Type 0) (test : A → Bool) (f : A → A) (xs : List A)
       → ((x : A) → Member x xs → test x ≡ false → P x) → ((x : A) → Member x xs → test x ≡ true → P (f x))
       → (y : A) → Member y (change test f xs) → P y

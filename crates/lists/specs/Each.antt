@@ -2,7 +2,8 @@
 use Rattle.std.specs.Prelude.{◌≡◌, ◌⊎◌, Bool, true, false, List, [], ◌∷◌}
 
 module _ {A : Type 0} where
-  -- the lists have one length, and each element of the second is one that the relation gives for the element in its place in the first
+  -- the lists have one length, and each element of the second is one that the relation gives for the element in its
+  -- place in the first
   abbrev pub EachGives : (A → A → Type 0) → List A → List A → Type 0
   EachGives R [] [] = Unit {0}
   EachGives R [] (y ∷ ys) = ⊥

@@ -1,4 +1,5 @@
--- Laws of a plan's text: of one line, of the lines of gates as the loop reads them, and of the whole text. Assumes nothing.
+-- Laws of a plan's text: of one line, of the lines of gates as the loop reads them, and of the whole text. Assumes
+-- nothing.
 use mathlib.Core.Path.{◌≡◌, refl, sym, ap, ◌∙◌}
 use mathlib.Core.Bool.{Bool, true, false, cond, not, ◌&&◌, and_assoc, and-false}
 use mathlib.Core.List.{List, [], ◌∷◌, ◌++◌, append_assoc, append-nil}
@@ -20,7 +21,8 @@ use Rattle.columns.proofs.Scan.{unread}
 use Rattle.columns.proofs.ReadingLaws.{read_most}
 use Rattle.columns.proofs.Rows.{numbers_asked}
 use Rattle.rules.specs.declared.Gate.{Gate}
-use Rattle.rules.specs.Plan.{plan_widths, plan_line, plan_number, is_head, is_place, is_gate, gate_on, are_gates, gates_on, is_plan, open_board}
+use Rattle.rules.specs.Plan.{plan_widths, plan_line, plan_number, is_head, is_place, is_gate, gate_on, are_gates}
+use Rattle.rules.specs.Plan.{gates_on, is_plan, open_board}
 use Rattle.plan.specs.declared.text.Plan.{Plan}
 use Rattle.plan.specs.Lines.{line_in, head_in, gate_in, PlanRead}
 

@@ -13,14 +13,16 @@ use Rattle.lists.proofs.Tests.{told}
 use Rattle.lists.proofs.Search.{each_at}
 use Rattle.rules.specs.declared.Seven.{Seven}
 use Rattle.rules.specs.declared.Call.{Call}
-use Rattle.rules.specs.declared.Call.TheVariants.{Request, Withdraw, Agree, Block, Unblock, Grant, Clear, Reoccupy, HandOver, Fulfil, Continue, Move, Passed, Term, Join, BookOut, BookIn}
+use Rattle.rules.specs.declared.Call.TheVariants.{Request, Withdraw, Agree, Block, Unblock, Grant, Clear, Reoccupy}
+use Rattle.rules.specs.declared.Call.TheVariants.{HandOver, Fulfil, Continue, Move, Passed, Term, Join, BookOut, BookIn}
 use Rattle.rules.specs.Board.{Board}
-use Rattle.rules.specs.Call.{Entry, between, is_new_paper, is_day, is_time, in_range, calls, no_entry, entry_of, is_call, named, in_form, in_ranges}
+use Rattle.rules.specs.Call.{Entry, between, is_new_paper, is_day, is_time, in_range, calls, no_entry, entry_of}
+use Rattle.rules.specs.Call.{is_call, named, in_form, in_ranges}
 use Rattle.rules.specs.Refusals.{◌when◌, own, conditions, answer}
 use Rattle.rules.proofs.Answers.{NoneHolds, condition_at, at_none, accepted_none}
 
--- what the number and the ranges say: it is a call, its portions are in order and on the board, its gate is one of the board's, its day and time
--- are those of a clock, its papers have numbers
+-- what the number and the ranges say: it is a call, its portions are in order and on the board, its gate is one of the
+-- board's, its day and time are those of a clock, its papers have numbers
 abbrev pub Ranges : Board → Option Call → Type 0
 Ranges b None = ⊥
 Ranges b (Some (Request kind first last officer)) = (first ≤ last) × (last < b.portions)

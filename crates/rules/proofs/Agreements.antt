@@ -1,5 +1,5 @@
--- Recorded agreements (02, order 7): "HAND OVER, CLEAR, REOCCUPY and the other authority's ending keep the recorded number.", and after every list of
--- calls it is the one reckoned from the calls and answers alone. Assumes nothing.
+-- Recorded agreements (02, order 7): "HAND OVER, CLEAR, REOCCUPY and the other authority's ending keep the recorded
+-- number.", and after every list of calls it is the one reckoned from the calls and answers alone. Assumes nothing.
 use Rattle.std.specs.Prelude.{Some}
 use Prim.Native.Nat.{ℕ}
 use mathlib.Core.Path.{◌≡◌, refl, sym, ap, ◌∙◌}
@@ -84,13 +84,14 @@ module _ (b : Board) (o : Once b) (s : Seven) (room n : ℕ) (l : live b n ≡ t
 
 -- ---- after every list of calls
 
--- the number that a has recorded is the one that is reckoned; where it isn't 0 it is a TOA's for a TWA, and a TWA's for a TOA
+-- the number that a has recorded is the one that is reckoned; where it isn't 0 it is a TOA's for a TWA, and a TWA's for
+-- a TOA
 pub record Recorded (A : ℕ → Reckoned) (a : Authority) : Type 0 where
   pub number : a.agreed.0 ≡ agreement (A (authority_no a))
   pub by : (a.agreed.0 ≡ 0 → ⊥) → (A a.agreed.0).kind ≡ giver a.kind
 
--- THEOREM: on a board opened from any plan text, after any list of calls, the number that each live authority has recorded is the one that its last
--- AGREE or JOIN names, 0 for none: read off the calls and answers alone
+-- THEOREM: on a board opened from any plan text, after any list of calls, the number that each live authority has
+-- recorded is the one that its last AGREE or JOIN names, 0 for none: read off the calls and answers alone
 pub list_agreements : (text : List ℕ) (ms : List Made) (a : Authority) → Member a (final (open_board text) ms).authorities
     → Recorded (reckoned (open_board text).gates start (trace (open_board text) ms)).authority a
 list_agreements text ms a m =

@@ -1,5 +1,5 @@
--- Demands 1 and 2 of the rules: "the lowest number whose condition holds is given", accepted exactly where no condition holds, and
--- what a refused call leaves; and the greatest answer. Assumes nothing.
+-- Demands 1 and 2 of the rules: "the lowest number whose condition holds is given", accepted exactly where no condition
+-- holds, and what a refused call leaves; and the greatest answer. Assumes nothing.
 use Rattle.std.specs.Prelude.{Option, Some, None}
 use Rattle.std.proofs.lemmas.Bool.{cond_both}
 use Prim.Native.Nat.{ℕ, ◌≤◌, ◌<◌}
@@ -16,7 +16,8 @@ use Rattle.lists.proofs.Tests.{and_l, and_r}
 use Rattle.lists.proofs.Search.{Member}
 use Rattle.rules.specs.declared.Seven.{Seven}
 use Rattle.rules.specs.declared.Call.{Call}
-use Rattle.rules.specs.declared.Call.TheVariants.{Request, Withdraw, Agree, Block, Unblock, Grant, Clear, Reoccupy, HandOver, Fulfil, Continue, Move, Passed, Term, Join, BookOut, BookIn}
+use Rattle.rules.specs.declared.Call.TheVariants.{Request, Withdraw, Agree, Block, Unblock, Grant, Clear, Reoccupy}
+use Rattle.rules.specs.declared.Call.TheVariants.{HandOver, Fulfil, Continue, Move, Passed, Term, Join, BookOut, BookIn}
 use Rattle.rules.specs.Board.{Board}
 use Rattle.rules.specs.Call.{named}
 use Rattle.rules.specs.Refusals.{Refusal, lowest, own, conditions, answer}
@@ -110,7 +111,8 @@ lowest_is k (q ∷ rs) h =
     lowest_step k q rs (ltb-true k q.number (and_l (ltb k q.number) (ascends q.number rs) h)) (above q.number rs rest)
     (lowest_is q.number rs rest) q.holds refl
 
--- THEOREM, demand 2 in one: the answer is 0 and no condition holds, or it is the number of the lowest condition that holds
+-- THEOREM, demand 2 in one: the answer is 0 and no condition holds, or it is the number of the lowest condition that
+-- holds
 pub answer_lowest : (b : Board) (s : Seven) (room : ℕ) → Lowest (conditions b s room) (answer b s room)
 unfolding answer
 answer_lowest b s room = lowest_is 0 (conditions b s room) (ascending b s room)

@@ -1,6 +1,6 @@
--- Bookings (02, order 6): "Limits in force stay protected through both calls." After every list of calls, on a board opened from any plan text,
--- each gate that an authority in force needs is blocked and can be blocked, and no call that is accepted restores it; only plain automatic signals
--- are out; and what BOOK OUT and BOOK IN record. Assumes nothing.
+-- Bookings (02, order 6): "Limits in force stay protected through both calls." After every list of calls, on a board
+-- opened from any plan text, each gate that an authority in force needs is blocked and can be blocked, and no call that
+-- is accepted restores it; only plain automatic signals are out; and what BOOK OUT and BOOK IN record. Assumes nothing.
 use Rattle.std.specs.Prelude.{Option, Some, None}
 use Prim.Native.Nat.{ℕ, zero, suc, ◌≤◌, ◌<◌}
 use native.Mathlib.Omega.{arith}
@@ -24,8 +24,10 @@ use Rattle.rules.specs.declared.Gate.{Gate}
 use Rattle.rules.specs.declared.Booking.{Booking}
 use Rattle.rules.specs.declared.Seven.{Seven}
 use Rattle.rules.specs.declared.Call.{Call}
-use Rattle.rules.specs.declared.Call.TheVariants.{Request, Withdraw, Agree, Block, Unblock, Grant, Clear, Reoccupy, HandOver, Fulfil, Continue, Move, Passed, Term, Join, BookOut, BookIn}
-use Rattle.rules.specs.Board.{Board, opened, no_booking, gate_at, booking_at, is_out, is_plain, can_be_blocked, with_blocks, with_bookings, with_stamp}
+use Rattle.rules.specs.declared.Call.TheVariants.{Request, Withdraw, Agree, Block, Unblock, Grant, Clear, Reoccupy}
+use Rattle.rules.specs.declared.Call.TheVariants.{HandOver, Fulfil, Continue, Move, Passed, Term, Join, BookOut, BookIn}
+use Rattle.rules.specs.Board.{Board, opened, no_booking, gate_at, booking_at, is_out, is_plain, can_be_blocked}
+use Rattle.rules.specs.Board.{with_blocks, with_bookings, with_stamp}
 use Rattle.rules.specs.Call.{named}
 use Rattle.rules.specs.Refusals.{not_booked, restores_blocked, own, answer}
 use Rattle.rules.specs.Effects.{booked_out, booked_in, effect}
@@ -40,7 +42,8 @@ use Rattle.rules.proofs.Safety.{demand_3, list_follows}
 
 -- ---- what holds of the bookings of every board that opening and calls return
 
--- each gate has a place for its booking; only a plain automatic signal is out; and each gate whose block is on can be blocked
+-- each gate has a place for its booking; only a plain automatic signal is out; and each gate whose block is on can be
+-- blocked
 pub record Booked (b : Board) : Type 0 where
   pub places : length b.bookings ≡ length b.gates
   pub plain : (g : ℕ) → is_out b g ≡ true → is_plain (gate_at b.gates g) ≡ true
@@ -178,15 +181,15 @@ booked_opened portions gates = record {
   can = λ g e. clash e (has_none g);
 }
 
--- THEOREM: on a board opened from any plan text, after any list of calls, each gate has a place for its booking, only plain automatic signals are out,
--- and each gate whose block is on can be blocked
+-- THEOREM: on a board opened from any plan text, after any list of calls, each gate has a place for its booking, only
+-- plain automatic signals are out, and each gate whose block is on can be blocked
 pub list_booked : (text : List ℕ) (ms : List Made) → Booked (final (open_board text) ms)
 list_booked text ms = let o = fresh text in booked_final (open_board text) ms (subst Booked (sym o.is_opened) (booked_opened o.portions o.gates))
 
 -- ---- limits in force stay protected
 
--- authority n is in force and needs the gate, by what is reckoned from the calls and their answers: "An authority needs each gate whose "to" is in its
--- limits and whose "from" isn't."
+-- authority n is in force and needs the gate, by what is reckoned from the calls and their answers: "An authority needs
+-- each gate whose "to" is in its limits and whose "from" isn't."
 pub record NeededBy (gates : List Gate) (A : ℕ → Reckoned) (n g : ℕ) : Type 0 where
   pub force : Forced A n
   pub gate : g < length gates
@@ -203,14 +206,15 @@ module _ (text : List ℕ) (ms : List Made) where
   abbrev A : ℕ → Reckoned
   A = (reckoned gates start (trace (open_board text) ms)).authority
 
-  -- THEOREM, order 6: "Limits in force stay protected through both calls.": after any list of calls, BOOK OUT and BOOK IN among them, a gate that an
-  -- authority in force needs is blocked, and can be blocked
+  -- THEOREM, order 6: "Limits in force stay protected through both calls.": after any list of calls, BOOK OUT and BOOK
+  -- IN among them, a gate that an authority in force needs is blocked, and can be blocked
   pub limits_protected : (n g : ℕ) → NeededBy gates A n g → (has g b.blocks ≡ true) × (can_be_blocked b g ≡ true)
   limits_protected n g h =
       let on : has g b.blocks ≡ true = ((list_follows text ms).blocked g ((demand_3 text ms).protected n g h.force h.gate h.into h.from)).1 in
       (on, (list_booked text ms).can g on)
 
-  -- THEOREM, order 6: a needed gate that is blocked can't be restored: after any list of calls no BOOK IN that would restore it is accepted
+  -- THEOREM, order 6: a needed gate that is blocked can't be restored: after any list of calls no BOOK IN that would
+  -- restore it is accepted
   pub needed_not_restored : (n : ℕ) (g : GateNo) → NeededBy gates A n g.0 → (s : Seven) (room : ℕ) (paper new : PaperNo)
       → named s ≡ Some (BookIn g paper true new) → answer b s room ≡ 0 → ⊥
   unfolding own condition_at restores_blocked

@@ -1,4 +1,5 @@
--- The ten cases of 01 marked E, and those of 02's orders 1, 4, 5, 6 and 7, from the rules by computation, in one joint theorem. Assumes nothing.
+-- The ten cases of 01 marked E, and those of 02's orders 1, 4, 5, 6 and 7, from the rules by computation, in one joint
+-- theorem. Assumes nothing.
 use Prim.Native.Nat.{ℕ}
 use mathlib.Core.Path.{◌≡◌, refl}
 use mathlib.Core.List.{List, [], ◌∷◌, ◌++◌, map}
@@ -52,13 +53,14 @@ block_all = at 1 4 0 0 0 0 ∷ at 1 4 1 0 0 0 ∷ at 1 4 2 0 0 0 ∷ at 1 4 3 0 
 abbrev pub on_blocked : List Seven → List ℕ
 on_blocked calls = answers (Plan.open_board plan_text) (block_all ++ calls)
 
--- an LPA over portion 1, its gate blocked, with a TERM made at 0600 of day 0: the answers of these three and of the calls that follow
+-- an LPA over portion 1, its gate blocked, with a TERM made at 0600 of day 0: the answers of these three and of the
+-- calls that follow
 abbrev pub on_term : ℕ → ℕ → ℕ → List Seven → List ℕ
 on_term day time length calls =
     answers (Plan.open_board plan_text) (at 600 1 1 1 1 7 ∷ at 600 4 1 0 0 0 ∷ at 600 14 1 day time length ∷ calls)
 
--- E10's two, a TWA in force over portion 1 and a pending TOA over 0 to 2, with a JOIN at that distance: the answers of the four BLOCKs, of these four
--- calls and of the calls that follow
+-- E10's two, a TWA in force over portion 1 and a pending TOA over 0 to 2, with a JOIN at that distance: the answers of
+-- the four BLOCKs, of these four calls and of the calls that follow
 abbrev pub on_join : ℕ → List Seven → List ℕ
 on_join distance calls =
     on_blocked (at 1 1 3 1 1 7 ∷ at 1 6 1 7 0 0 ∷ at 1 1 2 0 2 8 ∷ at 1 15 1 2 7 distance ∷ calls)
@@ -88,7 +90,8 @@ unfoldable pub papers_after : Board.Board → List Seven → List (List ℕ)
 papers_after b [] = map papers b.bookings
 papers_after b (s ∷ ss) = papers_after (Step.after b s 55) ss
 
--- the number of each live authority and the one that it has recorded, after a list of calls on that plan with every gate blocked
+-- the number of each live authority and the one that it has recorded, after a list of calls on that plan with every
+-- gate blocked
 abbrev pub numbers : Authority → List ℕ
 numbers a = Board.authority_no a ∷ a.agreed.0 ∷ []
 
@@ -122,14 +125,16 @@ pub record Cases : Type 0 where
       ≡ 0 ∷ 0 ∷ 0 ∷ 0 ∷ 0 ∷ 0 ∷ 0 ∷ 0 ∷ 0 ∷ []
   -- E10: "a pending TOA over a TWA in force: 13"
   pub e10 : on_blocked (at 1 1 3 1 1 7 ∷ at 1 6 1 7 0 0 ∷ at 1 1 2 0 2 8 ∷ at 1 6 2 8 0 0 ∷ []) ≡ 0 ∷ 0 ∷ 0 ∷ 0 ∷ 0 ∷ 0 ∷ 0 ∷ 13 ∷ []
-  -- order 1: the six calls of E1 to E6 with an LPA in the first. It has no term, so GRANT is 22 and the gate is not needed.
+  -- order 1: the six calls of E1 to E6 with an LPA in the first. It has no term, so GRANT is 22 and the gate is not
+  -- needed.
   pub lpa : answers (Plan.open_board plan_text)
       (at 2200 1 1 1 1 7 ∷ at 2201 6 1 7 0 0 ∷ at 2202 4 1 0 0 0 ∷ at 2203 6 1 7 0 0 ∷ at 2204 5 1 0 0 0 ∷ at 2260 5 1 0 0 0 ∷ [])
       ≡ 0 ∷ 11 ∷ 0 ∷ 22 ∷ 0 ∷ 3 ∷ []
   -- order 1: 10,079 minutes ahead is 21 and leaves no term, 10,080 serves; a second TERM is 8
   pub notice : on_term 7 559 60 (on 7 559 6 1 7 0 0 ∷ []) ≡ 0 ∷ 0 ∷ 21 ∷ 22 ∷ []
   pub week : on_term 7 600 60 (at 600 14 1 7 600 60 ∷ []) ≡ 0 ∷ 0 ∷ 0 ∷ 8 ∷ []
-  -- order 1: from 2330 of day 7 for an hour, over midnight: 22 in the minute before, 0 at the start; 0 in the last minute, 22 in the one after
+  -- order 1: from 2330 of day 7 for an hour, over midnight: 22 in the minute before, 0 at the start; 0 in the last
+  -- minute, 22 in the one after
   pub start : on_term 7 2330 60 (on 7 2329 6 1 7 0 0 ∷ on 7 2330 6 1 7 0 0 ∷ []) ≡ 0 ∷ 0 ∷ 0 ∷ 22 ∷ 0 ∷ []
   pub end : on_term 7 2330 60 (on 8 29 6 1 7 0 0 ∷ []) ≡ 0 ∷ 0 ∷ 0 ∷ 0 ∷ []
   pub over : on_term 7 2330 60 (on 8 30 6 1 7 0 0 ∷ []) ≡ 0 ∷ 0 ∷ 0 ∷ 22 ∷ []
@@ -138,13 +143,15 @@ pub record Cases : Type 0 where
   pub farthest : on_join 1000 (at 1 6 2 8 0 0 ∷ []) ≡ 0 ∷ 0 ∷ 0 ∷ 0 ∷ 0 ∷ 0 ∷ 0 ∷ 0 ∷ 0 ∷ []
   pub too_near : on_join 499 (at 1 6 2 8 0 0 ∷ []) ≡ 0 ∷ 0 ∷ 0 ∷ 0 ∷ 0 ∷ 0 ∷ 0 ∷ 24 ∷ 13 ∷ []
   pub too_far : on_join 1001 (at 1 6 2 8 0 0 ∷ []) ≡ 0 ∷ 0 ∷ 0 ∷ 0 ∷ 0 ∷ 0 ∷ 0 ∷ 24 ∷ 13 ∷ []
-  -- order 4: the TWA is cleared and fulfilled and another over the same portion comes into force: the JOIN names the first, so 13
+  -- order 4: the TWA is cleared and fulfilled and another over the same portion comes into force: the JOIN names the
+  -- first, so 13
   pub another : on_join 500 (at 1 7 1 7 0 0 ∷ at 1 10 1 7 7 0 ∷ at 1 1 3 1 1 9 ∷ at 1 6 3 9 0 0 ∷ at 1 6 2 8 0 0 ∷ [])
       ≡ 0 ∷ 0 ∷ 0 ∷ 0 ∷ 0 ∷ 0 ∷ 0 ∷ 0 ∷ 0 ∷ 0 ∷ 0 ∷ 0 ∷ 13 ∷ []
   -- order 5: trains that enter as 3, 1, 2 are held as 1, 2, 3, and once 3 has left as 1, 2
   pub entered : trains_after (Plan.open_board plan_text) three_enter ≡ 1 ∷ 2 ∷ 3 ∷ []
   pub left : trains_after (Plan.open_board plan_text) (three_enter ++ (at 1 12 3 3 0 0 ∷ at 1 13 3 0 0 0 ∷ [])) ≡ 1 ∷ 2 ∷ []
-  -- order 6: a plain signal can be blocked only while it is out; BOOK IN is 25 while its block is on, and restores it once that is off
+  -- order 6: a plain signal can be blocked only while it is out; BOOK IN is 25 while its block is on, and restores it
+  -- once that is off
   pub plain : on_plain
       (at 1 4 0 0 0 0 ∷ at 1 16 0 5 0 0 ∷ at 1 4 0 0 0 0 ∷ at 1 17 0 5 1 0 ∷ at 1 5 0 0 0 0 ∷ at 1 17 0 5 1 0 ∷ at 1 4 0 0 0 0 ∷ [])
       ≡ 10 ∷ 0 ∷ 0 ∷ 25 ∷ 0 ∷ 0 ∷ 10 ∷ []

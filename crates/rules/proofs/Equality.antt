@@ -1,5 +1,5 @@
--- What contracts equate is equal by 01 and 02 too: equal boards are `Same`, `Same` is an equality, on boards in order it is 01's equality as sets,
--- and on the boards of a run nothing is left free. Assumes nothing.
+-- What contracts equate is equal by 01 and 02 too: equal boards are `Same`, `Same` is an equality, on boards in order
+-- it is 01's equality as sets, and on the boards of a run nothing is left free. Assumes nothing.
 use Prim.Native.Nat.{ℕ, ◌≤◌}
 use native.Mathlib.Omega.{arith}
 use mathlib.Core.Path.{◌≡◌, refl, sym, ap, ap₂, subst, ◌∙◌}
@@ -14,7 +14,8 @@ use Rattle.rules.specs.declared.Authority.{Authority}
 use Rattle.rules.specs.declared.kind.Kind.{Kind}
 use Rattle.rules.specs.declared.kind.Kind.TheVariants.{Lpa, Toa, Twa}
 use Rattle.rules.specs.Call.{kind_of}
-use Rattle.rules.specs.Board.{Board, kind_no, is_lpa, is_toa, is_twa, authority_no, train_no, SameAuthority, InOrder, Same}
+use Rattle.rules.specs.Board.{Board, kind_no, is_lpa, is_toa, is_twa, authority_no, train_no, SameAuthority, InOrder}
+use Rattle.rules.specs.Board.{Same}
 use Rattle.rules.specs.Step.{Once}
 
 same_authority : (a : Authority) → SameAuthority a a
@@ -116,7 +117,8 @@ same_trans b c d s t = record {
 abbrev pub EachIn : {A : Type 0} → (A → A → Type 0) → List A → List A → Type 0
 EachIn {A} Like xs ys = (x : A) → Member x xs → (y : A) × Member y ys × Like x y
 
--- 01: "Two registers are equal when plan, last stamp, last number, blocks, live authorities and trains are equal as sets"; and by order 6 bookings
+-- 01: "Two registers are equal when plan, last stamp, last number, blocks, live authorities and trains are equal as
+-- sets"; and by order 6 bookings
 pub record SameSets (b c : Board) : Type 0 where
   pub portions : b.portions ≡ c.portions
   pub gates : b.gates ≡ c.gates
@@ -188,7 +190,8 @@ in_order_equal {A = A} (x ∷ xs) [] s = elim s [ ]
 in_order_equal [] [] s = refl
 in_order_equal (x ∷ xs) (y ∷ ys) s = ap₂ (λ a l. a ∷ l) s.0 (in_order_equal xs ys s.1)
 
--- THEOREM: of boards that hold authorities and trains by ascending number, equal as sets is equal in order: the numbers fix it
+-- THEOREM: of boards that hold authorities and trains by ascending number, equal as sets is equal in order: the numbers
+-- fix it
 pub sets_same : (b c : Board) → Once b → Once c → SameSets b c → Same b c
 sets_same b c o p s = record {
   portions = s.portions;

@@ -16,7 +16,9 @@ use Rattle.rules.specs.declared.Train.{Train}
 use Rattle.rules.specs.declared.Booking.{Booking}
 use Rattle.rules.specs.declared.kind.Kind.{Kind}
 use Rattle.rules.specs.declared.kind.Kind.TheVariants.{Lpa, Toa, Twa}
-use Rattle.rules.specs.Board.{Board, no_authority, no_train, is_in_force, has_workers_on, authority_no, train_no, is_authority, is_train, is_not_authority, is_not_train, live, authority, on_board, train, with_authorities, with_trains, with_bookings, with_stamp, amended, ended, moved, gone}
+use Rattle.rules.specs.Board.{Board, no_authority, no_train, is_in_force, has_workers_on, authority_no, train_no}
+use Rattle.rules.specs.Board.{is_authority, is_train, is_not_authority, is_not_train, live, authority, on_board, train}
+use Rattle.rules.specs.Board.{with_authorities, with_trains, with_bookings, with_stamp, amended, ended, moved, gone}
 use Rattle.rules.specs.Reckoning as Reckoning
 use Rattle.rules.specs.Reckoning.{Reckoned, Position, agreement, put, as_ended}
 use Rattle.rules.specs.Claim.{In, Forced}
@@ -41,7 +43,8 @@ put_all {X} P n x f h k m = pick (ℕ_discrete m n)
 
 -- ---- the board follows the reckoning
 
--- an authority that is held is as it is reckoned. Its limits have the same portions; its site counts while it is in force.
+-- an authority that is held is as it is reckoned. Its limits have the same portions; its site counts while it is in
+-- force.
 pub record Held (requests : ℕ) (x : Reckoned) (a : Authority) : Type 0 where
   pub positive : 1 ≤ authority_no a
   pub allotted : authority_no a ≤ requests
@@ -54,7 +57,8 @@ pub record Held (requests : ℕ) (x : Reckoned) (a : Authority) : Type 0 where
   pub site : is_in_force a ≡ true → x.has_workers_on ≡ has_workers_on a
   pub agreement : agreement x ≡ a.agreed.0
 
--- a train on the board is as it is reckoned; one that is with 0 may be reckoned under an authority that is no longer in force
+-- a train on the board is as it is reckoned; one that is with 0 may be reckoned under an authority that is no longer in
+-- force
 pub record Placed (y : Position) (t : Train) : Type 0 where
   pub on_board : y.on_board ≡ true
   pub head : y.head ≡ t.head

@@ -1,5 +1,5 @@
--- Demand 3, call by call: the calls that put an authority in force or its workers on (GRANT, REOCCUPY, CONTINUE), by what 11, 12 and 13
--- tell. Assumes nothing.
+-- Demand 3, call by call: the calls that put an authority in force or its workers on (GRANT, REOCCUPY, CONTINUE), by
+-- what 11, 12 and 13 tell. Assumes nothing.
 use Rattle.std.specs.Prelude.{Some}
 use Prim.Native.Nat.{ℕ, suc, ◌<◌}
 use native.Mathlib.Omega.{arith}
@@ -22,18 +22,22 @@ use Rattle.rules.specs.declared.Authority.{Authority}
 use Rattle.rules.specs.declared.Train.{Train}
 use Rattle.rules.specs.declared.Seven.{Seven}
 use Rattle.rules.specs.declared.Call.TheVariants.{Grant, Reoccupy, Continue}
-use Rattle.rules.specs.Board.{Board, gate_at, exclusive, is_toa, is_twa, is_in_force, authority_no, train_no, live, authority, touches, needs, with_authorities, with_trains, ended}
+use Rattle.rules.specs.Board.{Board, gate_at, exclusive, is_toa, is_twa, is_in_force, authority_no, train_no, live}
+use Rattle.rules.specs.Board.{authority, touches, needs, with_authorities, with_trains, ended}
 use Rattle.rules.specs.Call.{between, authority_of}
-use Rattle.rules.specs.Refusals.{is_open, unprotected, occupied, in_the_way, occupied_beside, rests_on, clashes, overlaps, own}
+use Rattle.rules.specs.Refusals.{is_open, unprotected, occupied, in_the_way, occupied_beside, rests_on, clashes}
+use Rattle.rules.specs.Refusals.{overlaps, own}
 use Rattle.rules.specs.Effects.{granted, with_site, with_authority, is_with, continued_with, continued, effect}
 use Rattle.rules.specs.Reckoning as Reckoning
 use Rattle.rules.specs.Reckoning.{Reckoned, Position, put, as_forced, as_ended, as_sited, as_continued, reckon}
 use Rattle.rules.specs.Claim.{In, Forced, Agreed, Safe}
 use Rattle.rules.proofs.Answers.{condition_at}
 use Rattle.rules.proofs.Accepted.{Accepted}
-use Rattle.rules.proofs.Follows.{put_other, put_all, Held, Placed, giver, Follows, authority_there, there_ended, follows_amended, follows_ended, follows_trains}
+use Rattle.rules.proofs.Follows.{put_other, put_all, Held, Placed, giver, Follows, authority_there, there_ended}
+use Rattle.rules.proofs.Follows.{follows_amended, follows_ended, follows_trains}
 use Rattle.rules.proofs.Claims.{New, safe_put, safe_quieter}
-use Rattle.rules.proofs.Recording.{Keeps, toa_kind, twa_kind, twa_agreement, toa_agreement, here, there, is_live, held_there, held_anew, held_sited}
+use Rattle.rules.proofs.Recording.{Keeps, toa_kind, twa_kind, twa_agreement, toa_agreement, here, there, is_live}
+use Rattle.rules.proofs.Recording.{held_there, held_anew, held_sited}
 
 -- the train that a reckoned number stands for
 pub placed_there : (b : Board) (r : Reckoning.Reckoning) → Follows b r → (t : ℕ) → (r.train t).on_board ≡ true
@@ -186,7 +190,8 @@ module _ (b : Board) (r : Reckoning.Reckoning) (F : Follows b r) (old : ℕ) (ne
       let e = (authority_there b old lo).1 in
       omega (arith, (here b r F old lo).positive)
 
-  -- a train that isn't reckoned under old stays under what it was; one that is, with its head in the limits, comes under new
+  -- a train that isn't reckoned under old stays under what it was; one that is, with its head in the limits, comes
+  -- under new
   not_handed : (t : ℕ) → ((r.train t).under ≡ old → ⊥) → (handed t).under ≡ (r.train t).under
   not_handed t z = ap (λ (k : Bool). cond (k && between y.first y.last (r.train t).head) new.0 (r.train t).under) (ne_eqb (r.train t).under old z)
 

@@ -24,7 +24,8 @@ use Rattle.rules.specs.declared.Authority.{Authority}
 use Rattle.rules.specs.declared.Train.{Train}
 use Rattle.rules.specs.declared.Seven.{Seven}
 use Rattle.rules.specs.declared.Call.TheVariants.{Move, Passed}
-use Rattle.rules.specs.Board.{Board, is_outside, gate_at, no_authority, exclusive, is_twa, is_in_force, has_workers_on, authority_no, train_no, is_train, on_board, train, moved, gone}
+use Rattle.rules.specs.Board.{Board, is_outside, gate_at, no_authority, exclusive, is_twa, is_in_force, has_workers_on}
+use Rattle.rules.specs.Board.{authority_no, train_no, is_train, on_board, train, moved, gone}
 use Rattle.rules.specs.Refusals.{is_e, is_w, any_e, any_w, the_w, pilot, worked_on, is_at, not_there, not_piloted, own}
 use Rattle.rules.specs.Effects.{entered, with_head, with_rear_in, effect}
 use Rattle.rules.specs.Reckoning as Reckoning
@@ -32,7 +33,8 @@ use Rattle.rules.specs.Reckoning.{Reckoned, Position, put, as_moved, as_passed, 
 use Rattle.rules.specs.Claim.{In, Forced, Agreed, Safe}
 use Rattle.rules.proofs.Answers.{condition_at}
 use Rattle.rules.proofs.Accepted.{Accepted}
-use Rattle.rules.proofs.Follows.{put_same, put_other, put_all, Placed, AllPlaced, Follows, train_there, gone_member, runs_gone, placed_moved, follows_trains}
+use Rattle.rules.proofs.Follows.{put_same, put_other, put_all, Placed, AllPlaced, Follows, train_there, gone_member}
+use Rattle.rules.proofs.Follows.{runs_gone, placed_moved, follows_trains}
 use Rattle.rules.proofs.Claims.{Smaller, quiet_same, small_same, safe_less}
 use Rattle.rules.proofs.Recording.{Keeps, twa_kind, held_there}
 

@@ -1,5 +1,5 @@
--- On every board that opening and calls return, live authorities and trains are held by ascending number, so each once, at most 32 of each, and
--- numbers are those allotted, 1 to 9999 at most. Assumes nothing.
+-- On every board that opening and calls return, live authorities and trains are held by ascending number, so each once,
+-- at most 32 of each, and numbers are those allotted, 1 to 9999 at most. Assumes nothing.
 use Rattle.std.specs.Prelude.{Option, Some, None}
 use Prim.Native.Nat.{ℕ, suc, ◌≤◌, ◌<◌}
 use native.Mathlib.Omega.{arith}
@@ -17,7 +17,8 @@ use Rattle.lists.specs.Order.{Ascending, insert_by}
 use Rattle.lists.proofs.Tests.{told, and_no_r}
 use Rattle.lists.proofs.Search.{kept, changes_from, length-keep, length-change}
 use Rattle.lists.proofs.Distinct.{changed-number}
-use Rattle.lists.proofs.Order.{ascending_distinct, ascending_append, ascending_keep, ascending_change, ascending_insert, length_insert}
+use Rattle.lists.proofs.Order.{ascending_distinct, ascending_append, ascending_keep, ascending_change, ascending_insert}
+use Rattle.lists.proofs.Order.{length_insert}
 use Rattle.sets.specs.Sets.{run}
 use Rattle.rules.specs.declared.Gate.{Gate}
 use Rattle.rules.specs.declared.Booking.{Booking}
@@ -25,12 +26,16 @@ use Rattle.rules.specs.declared.Authority.{Authority}
 use Rattle.rules.specs.declared.Train.{Train}
 use Rattle.rules.specs.declared.Seven.{Seven}
 use Rattle.rules.specs.declared.Call.{Call}
-use Rattle.rules.specs.declared.Call.TheVariants.{Request, Withdraw, Agree, Block, Unblock, Grant, Clear, Reoccupy, HandOver, Fulfil, Continue, Move, Passed, Term, Join, BookOut, BookIn}
-use Rattle.rules.specs.Board.{Board, opened, is_outside, gate_at, authority_no, train_no, is_authority, is_train, is_not_authority, is_not_train, authority, on_board, train, with_authorities, with_trains, with_blocks, with_bookings, amended, ended, moved, gone}
+use Rattle.rules.specs.declared.Call.TheVariants.{Request, Withdraw, Agree, Block, Unblock, Grant, Clear, Reoccupy}
+use Rattle.rules.specs.declared.Call.TheVariants.{HandOver, Fulfil, Continue, Move, Passed, Term, Join, BookOut, BookIn}
+use Rattle.rules.specs.Board.{Board, opened, is_outside, gate_at, authority_no, train_no, is_authority, is_train}
+use Rattle.rules.specs.Board.{is_not_authority, is_not_train, authority, on_board, train, with_authorities, with_trains}
+use Rattle.rules.specs.Board.{with_blocks, with_bookings, amended, ended, moved, gone}
 use Rattle.rules.specs.Call.{minute_of, named}
 use Rattle.rules.specs.Refusals.{own, full, no_room, not_there, answer}
 use Rattle.rules.specs.Plan.{open_board}
-use Rattle.rules.specs.Effects.{requested, granted, with_site, with_officer, with_agreed, with_term, entered, with_head, with_rear_in, is_with, continued_with, effect}
+use Rattle.rules.specs.Effects.{requested, granted, with_site, with_officer, with_agreed, with_term, entered, with_head}
+use Rattle.rules.specs.Effects.{with_rear_in, is_with, continued_with, effect}
 use Rattle.rules.specs.Step.{Once, after, Made, final}
 use Rattle.rules.proofs.Answers.{condition_at}
 use Rattle.rules.proofs.Accepted.{Accepted, accepted}
@@ -191,7 +196,8 @@ once_open text = let o = fresh text in subst Once (sym o.is_opened) (once_opened
 pub held_once : (b : Board) → Once b → Distinct authority_no b.authorities × Distinct train_no b.trains
 held_once b o = (ascending_distinct authority_no b.authorities o.authorities, ascending_distinct train_no b.trains o.trains)
 
--- THEOREM, order 5: on a board opened from any plan text, after any list of calls, live authorities and trains are held by ascending number
+-- THEOREM, order 5: on a board opened from any plan text, after any list of calls, live authorities and trains are held
+-- by ascending number
 pub held_ascending : (text : List ℕ) (ms : List Made)
     → Ascending authority_no (final (open_board text) ms).authorities × Ascending train_no (final (open_board text) ms).trains
 held_ascending text ms = let o = once_final (open_board text) ms (once_open text) in (o.authorities, o.trains)

@@ -1,5 +1,5 @@
--- Opening: every text gives a freshly opened board of at most 64 portions and 64 gates, a refused one the closed board and 20; and the
--- closed board accepts no call. Assumes nothing.
+-- Opening: every text gives a freshly opened board of at most 64 portions and 64 gates, a refused one the closed board
+-- and 20; and the closed board accepts no call. Assumes nothing.
 use Rattle.std.specs.Prelude.{Option, Some, None}
 use Prim.Native.Nat.{ℕ, zero, suc, ◌≤◌}
 use native.Mathlib.Omega.{arith}
@@ -12,7 +12,8 @@ use Rattle.lists.proofs.Tests.{told}
 use Rattle.rules.specs.declared.Gate.{Gate}
 use Rattle.rules.specs.declared.Seven.{Seven}
 use Rattle.rules.specs.declared.Call.{Call}
-use Rattle.rules.specs.declared.Call.TheVariants.{Request, Withdraw, Agree, Block, Unblock, Grant, Clear, Reoccupy, HandOver, Fulfil, Continue, Move, Passed, Term, Join, BookOut, BookIn}
+use Rattle.rules.specs.declared.Call.TheVariants.{Request, Withdraw, Agree, Block, Unblock, Grant, Clear, Reoccupy}
+use Rattle.rules.specs.declared.Call.TheVariants.{HandOver, Fulfil, Continue, Move, Passed, Term, Join, BookOut, BookIn}
 use Rattle.rules.specs.Board.{Board, opened, closed, live, on_board}
 use Rattle.rules.specs.Call.{named}
 use Rattle.rules.specs.Refusals.{not_live, own, answer}
@@ -59,7 +60,8 @@ refused_plan text e = (rw e, rw e)
 
 -- ---- the closed board
 
--- no call's conditions are all false on it: a field that names a portion or a gate is out of range, no authority is live, no train is on it
+-- no call's conditions are all false on it: a field that names a portion or a gate is out of range, no authority is
+-- live, no train is on it
 closed_refuses : (s : Seven) (c : Option Call) → Accepted closed s c → ⊥
 unfolding closed opened own condition_at not_live live on_board
 closed_refuses s None k = k.ranges

@@ -1,5 +1,6 @@
--- Demand 3, call by call: the calls that put nothing more in force (REQUEST, WITHDRAW, HAND OVER, TERM, BOOK OUT, BOOK IN,
--- AGREE, JOIN, BLOCK, UNBLOCK, CLEAR, FULFIL). Each keeps two things: the board follows the reckoning, and the reckoning is safe. Assumes nothing.
+-- Demand 3, call by call: the calls that put nothing more in force (REQUEST, WITHDRAW, HAND OVER, TERM, BOOK OUT, BOOK
+-- IN, AGREE, JOIN, BLOCK, UNBLOCK, CLEAR, FULFIL). Each keeps two things: the board follows the reckoning, and the
+-- reckoning is safe. Assumes nothing.
 use Rattle.std.specs.Prelude.{Option, Some}
 use Prim.Native.Nat.{ℕ, suc, ◌≤◌, ◌<◌}
 use native.Mathlib.Omega.{arith}
@@ -27,17 +28,23 @@ use Rattle.rules.specs.declared.Authority.{Authority}
 use Rattle.rules.specs.declared.Train.{Train}
 use Rattle.rules.specs.declared.Seven.{Seven}
 use Rattle.rules.specs.declared.Call.{Call}
-use Rattle.rules.specs.declared.Call.TheVariants.{Request, Withdraw, Agree, Block, Unblock, Clear, HandOver, Fulfil, Term, Join, BookOut, BookIn}
-use Rattle.rules.specs.Board.{Board, gate_at, is_lpa, is_toa, is_twa, is_in_force, has_workers_on, authority_no, train_no, live, authority, needs, with_authorities, amended, ended}
+use Rattle.rules.specs.declared.Call.TheVariants.{Request, Withdraw, Agree, Block, Unblock, Clear, HandOver, Fulfil}
+use Rattle.rules.specs.declared.Call.TheVariants.{Term, Join, BookOut, BookIn}
+use Rattle.rules.specs.Board.{Board, gate_at, is_lpa, is_toa, is_twa, is_in_force, has_workers_on, authority_no}
+use Rattle.rules.specs.Board.{train_no, live, authority, needs, with_authorities, amended, ended}
 use Rattle.rules.specs.Refusals.{not_live, not_to_agree, not_to_join, still_needed, in_force_needs, own}
-use Rattle.rules.specs.Effects.{requested, booked_out, booked_in, with_site, with_officer, with_agreed, with_term, with_authority, is_with, freed, effect}
+use Rattle.rules.specs.Effects.{requested, booked_out, booked_in, with_site, with_officer, with_agreed, with_term}
+use Rattle.rules.specs.Effects.{with_authority, is_with, freed, effect}
 use Rattle.rules.specs.Call.{authority_of, minute_of}
 use Rattle.rules.specs.Reckoning as Reckoning
-use Rattle.rules.specs.Reckoning.{Reckoned, agreement, put, as_requested, as_ended, as_sited, as_agreed, as_joined, reckon}
+use Rattle.rules.specs.Reckoning.{Reckoned, agreement, put, as_requested, as_ended, as_sited, as_agreed, as_joined}
+use Rattle.rules.specs.Reckoning.{reckon}
 use Rattle.rules.specs.Claim.{In, Forced, Safe}
 use Rattle.rules.proofs.Answers.{condition_at}
 use Rattle.rules.proofs.Accepted.{Accepted}
-use Rattle.rules.proofs.Follows.{put_same, put_other, put_all, Held, Placed, giver, Rests, Follows, reckoned_as, authority_there, ended_member, there_ended, follows_amended, follows_unreckoned, follows_ended, follows_trains, follows_beside}
+use Rattle.rules.proofs.Follows.{put_same, put_other, put_all, Held, Placed, giver, Rests, Follows, reckoned_as}
+use Rattle.rules.proofs.Follows.{authority_there, ended_member, there_ended, follows_amended, follows_unreckoned}
+use Rattle.rules.proofs.Follows.{follows_ended, follows_trains, follows_beside}
 use Rattle.rules.proofs.Claims.{quiet_same, small_same, safe_less, safe_quieter}
 
 pub lpa_kind : (k : Kind) → is_lpa k ≡ true → k ≡ Lpa
@@ -267,8 +274,8 @@ module _ (b : Board) (r : Reckoning.Reckoning) (F : Follows b r) (S : Safe b.gat
 
   -- ---- AGREE and JOIN
 
-  -- `taker`, pending, records the agreement of the officer of `by`, which is of the kind that can give it, and is reckoned as x: as it was, but for the
-  -- agreement
+  -- `taker`, pending, records the agreement of the officer of `by`, which is of the kind that can give it, and is
+  -- reckoned as x: as it was, but for the agreement
   module _ (by taker : AuthorityNo) (x : Reckoned) (live-by : live b by.0 ≡ true) (live-taker : live b taker.0 ≡ true)
       (waits : is_in_force (authority b taker.0) ≡ false) (gives : (authority b by.0).kind ≡ giver (authority b taker.0).kind) where
     abbrev y : Reckoned

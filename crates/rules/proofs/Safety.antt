@@ -1,5 +1,6 @@
--- Demand 3: after every list of calls, with any seven numbers and any line buffer, accepted or refused, on a board opened from any plan
--- text, what is reckoned from the calls and their answers is safe. One theorem about the whole list, `demand_3`. Assumes nothing.
+-- Demand 3: after every list of calls, with any seven numbers and any line buffer, accepted or refused, on a board
+-- opened from any plan text, what is reckoned from the calls and their answers is safe. One theorem about the whole
+-- list, `demand_3`. Assumes nothing.
 use Rattle.std.specs.Prelude.{Option, Some, None}
 use Prim.Native.Nat.{ℕ, ◌≤◌}
 use mathlib.Core.Path.{◌≡◌, refl, sym, subst}
@@ -13,7 +14,8 @@ use Rattle.sets.proofs.Bits.{has_none}
 use Rattle.rules.specs.declared.Gate.{Gate}
 use Rattle.rules.specs.declared.Seven.{Seven}
 use Rattle.rules.specs.declared.Call.{Call}
-use Rattle.rules.specs.declared.Call.TheVariants.{Request, Withdraw, Agree, Block, Unblock, Grant, Clear, Reoccupy, HandOver, Fulfil, Continue, Move, Passed, Term, Join, BookOut, BookIn}
+use Rattle.rules.specs.declared.Call.TheVariants.{Request, Withdraw, Agree, Block, Unblock, Grant, Clear, Reoccupy}
+use Rattle.rules.specs.declared.Call.TheVariants.{HandOver, Fulfil, Continue, Move, Passed, Term, Join, BookOut, BookIn}
 use Rattle.rules.specs.Board.{Board, opened, with_stamp}
 use Rattle.rules.specs.Call.{named}
 use Rattle.rules.specs.Refusals.{answer}
@@ -26,7 +28,9 @@ use Rattle.rules.proofs.Accepted.{Accepted, accepted}
 use Rattle.rules.proofs.Opening.{fresh}
 use Rattle.rules.proofs.Follows.{Follows, follows_beside}
 use Rattle.rules.proofs.Claims.{safe_start}
-use Rattle.rules.proofs.Recording.{Keeps, keeps_request, keeps_withdraw, keeps_agree, keeps_join, keeps_block, keeps_unblock, keeps_clear, keeps_hand_over, keeps_term, keeps_book_out, keeps_book_in, keeps_fulfil}
+use Rattle.rules.proofs.Recording.{Keeps, keeps_request, keeps_withdraw, keeps_agree, keeps_join, keeps_block}
+use Rattle.rules.proofs.Recording.{keeps_unblock, keeps_clear, keeps_hand_over, keeps_term, keeps_book_out}
+use Rattle.rules.proofs.Recording.{keeps_book_in, keeps_fulfil}
 use Rattle.rules.proofs.Granting.{keeps_grant, keeps_reoccupy, keeps_continue}
 use Rattle.rules.proofs.Moving.{keeps_move, keeps_passed}
 
@@ -76,7 +80,8 @@ gates_stay b (Some (BookIn g paper certified new)) = refl
 
 -- ---- a list of calls
 
--- what is to be shown of a list of calls from a board and a reckoning: what is reckoned is safe, and the board after the list follows it
+-- what is to be shown of a list of calls from a board and a reckoning: what is reckoned is safe, and the board after
+-- the list follows it
 pub record Holds (gates : List Gate) (last : Board) (r : Reckoning) : Type 0 where
   pub safe : Safe gates r
   pub follows : Follows last r

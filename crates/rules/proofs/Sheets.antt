@@ -1,5 +1,6 @@
--- The shift sheet (02, order 2): first and last are those of the REQUEST after every list of calls; its lines ascend (order 5); the ninth column is the
--- agreement that is reckoned (order 7); and a page worked out, byte for byte. Assumes nothing.
+-- The shift sheet (02, order 2): first and last are those of the REQUEST after every list of calls; its lines ascend
+-- (order 5); the ninth column is the agreement that is reckoned (order 7); and a page worked out, byte for byte.
+-- Assumes nothing.
 use Prim.Native.Nat.{ℕ, zero, suc, ◌<◌}
 use native.Mathlib.Omega.{arith}
 use mathlib.Core.Path.{◌≡◌, refl, sym, ap}
@@ -25,7 +26,8 @@ use Rattle.rules.specs.Call.{authority_of, minute_of}
 use Rattle.rules.specs.Plan.{open_board}
 use Rattle.rules.specs.Step.{Made, trace, final}
 use Rattle.rules.specs.Reckoning.{Reckoned, start, agreement, reckoned}
-use Rattle.rules.specs.Sheet.{now_of, minutes_in_hand, authority_cells, authority_line, held_portions, total_cells, total_line, sheet_lines, page_of, sheet}
+use Rattle.rules.specs.Sheet.{now_of, minutes_in_hand, authority_cells, authority_line, held_portions, total_cells}
+use Rattle.rules.specs.Sheet.{total_line, sheet_lines, page_of, sheet}
 use Rattle.rules.proofs.Follows.{Held}
 use Rattle.rules.proofs.Safety.{list_follows}
 use Rattle.rules.proofs.Agreements.{list_agreements}
@@ -41,8 +43,9 @@ held_ends x a h = (
       (λ q above low. ⊎_elim (λ e. absurd (omega (arith, h.into q e))) (λ e. e) (truth (has q a.limits))),
 )
 
--- THEOREM: on a board opened from any plan text, after any list of calls, the least and the greatest portion of the limits of each live authority
--- are the first and the last of its REQUEST, and its kind is the REQUEST's: read off the calls and answers alone
+-- THEOREM: on a board opened from any plan text, after any list of calls, the least and the greatest portion of the
+-- limits of each live authority are the first and the last of its REQUEST, and its kind is the REQUEST's: read off the
+-- calls and answers alone
 pub first-last : (text : List ℕ) (ms : List Made) (a : Authority) → Member a (final (open_board text) ms).authorities
     → let x = (reckoned (open_board text).gates start (trace (open_board text) ms)).authority (authority_no a) in
     (a.kind ≡ x.kind) × (least a.limits ≡ x.first) × (greatest a.limits ≡ x.last)
@@ -60,7 +63,8 @@ line_at f [] rest i l = absurd (omega arith)
 line_at f (x ∷ xs) rest zero l = refl
 line_at f (x ∷ xs) rest (suc i) l = line_at f xs rest i (omega arith)
 
--- lines i and j are those of two authorities, each with its number in the first column, and the upper one has the lower number
+-- lines i and j are those of two authorities, each with its number in the first column, and the upper one has the lower
+-- number
 pub record Ascend (b : Board) (i j : ℕ) : Type 0 where
   pub upper : Authority
   pub lower : Authority
@@ -81,8 +85,8 @@ lines_ascend b u i j l k = record {
 
 -- ---- the ninth column (02, order 7)
 
--- THEOREM: on a board opened from any plan text, after any list of calls, the ninth column of each live authority's line is the number that its last
--- AGREE or JOIN names, 0 for none: read off the calls and answers alone
+-- THEOREM: on a board opened from any plan text, after any list of calls, the ninth column of each live authority's
+-- line is the number that its last AGREE or JOIN names, 0 for none: read off the calls and answers alone
 pub agreement_shown : (text : List ℕ) (ms : List Made) (now : ℕ) (a : Authority) → Member a (final (open_board text) ms).authorities
     → let x = (reckoned (open_board text).gates start (trace (open_board text) ms)).authority (authority_no a) in
     get_or (authority_cells now a) 8 Empty ≡ Number (agreement x)
@@ -91,8 +95,9 @@ agreement_shown text ms now a m = ap Number (list_agreements text ms a m).number
 
 -- ---- a page
 
--- on day 12 at 0555: an LPA over 2 to 3 whose term of 420 minutes from 2200 the day before is over, its site on; a TOA over 0 to 1, and a TWA over 1 that
--- it has agreed, its site clear; an LPA over 63, pending, with no term; gates 0, 5 and 63 blocked
+-- on day 12 at 0555: an LPA over 2 to 3 whose term of 420 minutes from 2200 the day before is over, its site on; a TOA
+-- over 0 to 1, and a TWA over 1 that it has agreed, its site clear; an LPA over 63, pending, with no term; gates 0, 5
+-- and 63 blocked
 abbrev last_night : Board
 last_night = record {
   portions = 64;

@@ -1,5 +1,5 @@
--- What stays of an authority until it ends: it is in force if it was, with the term that it had (02, order 1: "An LPA past its end stays in force") and
--- with the agreement that it has recorded (order 7). Assumes nothing.
+-- What stays of an authority until it ends: it is in force if it was, with the term that it had (02, order 1: "An LPA
+-- past its end stays in force") and with the agreement that it has recorded (order 7). Assumes nothing.
 use Rattle.std.specs.Prelude.{Option, Some, None}
 use Prim.Native.Nat.{ℕ}
 use mathlib.Core.Path.{◌≡◌, refl, sym, ap, subst, ◌∙◌}
@@ -17,8 +17,10 @@ use Rattle.rules.specs.declared.AuthorityNo.{AuthorityNo}
 use Rattle.rules.specs.declared.Authority.{Authority}
 use Rattle.rules.specs.declared.Seven.{Seven}
 use Rattle.rules.specs.declared.Call.{Call}
-use Rattle.rules.specs.declared.Call.TheVariants.{Request, Withdraw, Agree, Block, Unblock, Grant, Clear, Reoccupy, HandOver, Fulfil, Continue, Move, Passed, Term, Join, BookOut, BookIn}
-use Rattle.rules.specs.Board.{Board, is_in_force, has_term, authority_no, is_authority, is_not_authority, live, authority, with_stamp, ended}
+use Rattle.rules.specs.declared.Call.TheVariants.{Request, Withdraw, Agree, Block, Unblock, Grant, Clear, Reoccupy}
+use Rattle.rules.specs.declared.Call.TheVariants.{HandOver, Fulfil, Continue, Move, Passed, Term, Join, BookOut, BookIn}
+use Rattle.rules.specs.Board.{Board, is_in_force, has_term, authority_no, is_authority, is_not_authority, live}
+use Rattle.rules.specs.Board.{authority, with_stamp, ended}
 use Rattle.rules.specs.Call.{minute_of, named}
 use Rattle.rules.specs.Refusals.{not_live, not_to_agree, not_to_join, own, answer}
 use Rattle.rules.specs.Effects.{granted, with_site, with_officer, with_agreed, with_term, effect}
@@ -78,8 +80,8 @@ agrees n (Some (BookIn g paper certified new)) = false
 unfoldable pub agreed_by : ℕ → Answered → Bool
 agreed_by n c = eqb c.answer 0 && agrees n (named c.seven)
 
--- authority x, now a: in force if it was, with the term that it had, and with the agreement that it had recorded: in force always, and pending unless one
--- was recorded anew
+-- authority x, now a: in force if it was, with the term that it had, and with the agreement that it had recorded: in
+-- force always, and pending unless one was recorded anew
 pub record Stays (anew : Bool) (x a : Authority) : Type 0 where
   pub number : authority_no a ≡ authority_no x
   pub force : is_in_force x ≡ true → is_in_force a ≡ true
@@ -200,9 +202,10 @@ list_step b o c ms x m ih true e o' here later =
     (a, ma, stays_then (agrees (authority_no x) (named c.seven)) (any (agreed_by (authority_no x)) (trace b' ms)) x y a s u)
 list_step b o c ms x m ih false e o' here later = ih b o x m later
 
--- THEOREM: after any list of calls none of which ended it, an authority that was live is live, in force if it was, with the term it had and, in force
--- or unless a call of the list recorded another with it, with the agreement it had recorded. An LPA in force past its end is one; so is one whose term
--- is still to come; so is a TWA whose TOA has ended, and a TOA whose joined TWA has.
+-- THEOREM: after any list of calls none of which ended it, an authority that was live is live, in force if it was, with
+-- the term it had and, in force or unless a call of the list recorded another with it, with the agreement it had
+-- recorded. An LPA in force past its end is one; so is one whose term is still to come; so is a TWA whose TOA has
+-- ended, and a TOA whose joined TWA has.
 pub authority_stays : (ms : List Made) (b : Board) → Once b → (x : Authority) → Member x b.authorities
     → any (ended_by (authority_no x)) (trace b ms) ≡ false → StaysIn (any (agreed_by (authority_no x)) (trace b ms)) x (final b ms).authorities
 unfolding trace final after ended_by agreed_by

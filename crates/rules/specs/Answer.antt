@@ -1,9 +1,13 @@
--- The numbers that documents 01 and 02 give the refusals, and those that an answer is printed and reckoned by (01, "Refusal words" and "The
--- journal"). Assumes nothing.
+-- The numbers that documents 01 and 02 give the refusals, and those that an answer is printed and reckoned by (01,
+-- "Refusal words" and "The journal"). Assumes nothing.
 use Rattle.std.specs.Prelude.{ℕ, Bool, true, false, Option, Some, None, Result, Ok, Err}
 use Rattle.rules.specs.declared.AuthorityNo.{AuthorityNo}
 use Rattle.rules.specs.declared.refusal.Refusal.{Refusal}
-use Rattle.rules.specs.declared.refusal.Refusal.TheVariants.{ShortLine, NoSuchCall, Field, Clock, NotLive, Stage, Officer, AlreadySo, Full, NoFacility, Unprotected, Occupied, Overlap, Site, Assurance, StillNeeded, NoTrain, Blocked, NotPiloted, Plan, Notice, Term, ShortPage, Distance, BlockOn}
+use Rattle.rules.specs.declared.refusal.Refusal.TheVariants.{ShortLine, NoSuchCall, Field, Clock, NotLive, Stage}
+use Rattle.rules.specs.declared.refusal.Refusal.TheVariants.{Officer, AlreadySo, Full, NoFacility, Unprotected}
+use Rattle.rules.specs.declared.refusal.Refusal.TheVariants.{Occupied, Overlap, Site, Assurance, StillNeeded, NoTrain}
+use Rattle.rules.specs.declared.refusal.Refusal.TheVariants.{Blocked, NotPiloted, Plan, Notice, Term, ShortPage}
+use Rattle.rules.specs.declared.refusal.Refusal.TheVariants.{Distance, BlockOn}
 
 -- "Refusal words"; 02: 21 and 22 order 1, 23 order 2, 24 order 4, 25 order 6
 abbrev pub refusal_no : Refusal → ℕ

@@ -1,5 +1,5 @@
--- What the register holds (01, "Track and gates" and "What the register holds"; 02, order 1: terms, order 4: a TOA's agreement, order 5: the order,
--- order 6: bookings, order 7: agreements). Assumes nothing.
+-- What the register holds (01, "Track and gates" and "What the register holds"; 02, order 1: terms, order 4: a TOA's
+-- agreement, order 5: the order, order 6: bookings, order 7: agreements). Assumes nothing.
 use Rattle.std.specs.Prelude.{ℕ, ◌≡◌, Bool, true, false, not, ◌&&◌, ◌||◌, List, [], ◌∷◌, length, replicate, get_or, eqb}
 use Rattle.lists.specs.Search.{any, first, keep, change}
 use Rattle.sets.specs.Sets.{has}
@@ -13,11 +13,10 @@ use Rattle.rules.specs.declared.Register.{Register}
 
 -- ---- what a register stands for
 
--- A board: P portions, the gates in order and the booking of each (order 6), the last stamp, the last number, the blocked gates as a set, live
--- authorities and trains.
--- 02, order 5: "Hold live authorities and trains by ascending number after every call": `Once`, specs/Step.antt.
--- 02, order 7: a TWA keeps the TOA that it has agreed, and a TOA the TWA that it has joined, as recorded until it ends itself: `authority_stays`,
--- proofs/Stays.antt.
+-- A board: P portions, the gates in order and the booking of each (order 6), the last stamp, the last number, the
+-- blocked gates as a set, live authorities and trains. 02, order 5: "Hold live authorities and trains by ascending
+-- number after every call": `Once`, specs/Step.antt. 02, order 7: a TWA keeps the TOA that it has agreed, and a TOA the
+-- TWA that it has joined, as recorded until it ends itself: `authority_stays`, proofs/Stays.antt.
 pub record Board : Type 0 where
   pub portions : ℕ
   pub gates : List Gate
@@ -47,7 +46,8 @@ board_of r = record {
 abbrev pub no_booking : Booking
 no_booking = record { paper = record { 0 = 0 }; replaced = record { 0 = 0 } }
 
--- "A freshly opened board has no authority, no train, no block, last stamp day 0 time 0, last number 0.", and no gate of it is out
+-- "A freshly opened board has no authority, no train, no block, last stamp day 0 time 0, last number 0.", and no gate
+-- of it is out
 unfoldable pub opened : ℕ → List Gate → Board
 opened portions gates = record {
   portions = portions;
@@ -109,8 +109,8 @@ is_out b g = not (eqb (booking_at b.bookings g).paper.0 0)
 abbrev pub is_plain : Gate → Bool
 is_plain gate = eqb gate.kind 4
 
--- "Kinds 1 to 3 can be blocked, kind 4 can't."; 02, order 6: "A plain automatic signal may protect work while it is booked out of use. [..] "Can be
--- blocked", and 10 at BLOCK, now follow the booking."
+-- "Kinds 1 to 3 can be blocked, kind 4 can't."; 02, order 6: "A plain automatic signal may protect work while it is
+-- booked out of use. [..] "Can be blocked", and 10 at BLOCK, now follow the booking."
 unfoldable pub can_be_blocked : Board → ℕ → Bool
 can_be_blocked b g = not (is_plain (gate_at b.gates g)) || is_out b g
 
@@ -246,8 +246,9 @@ gone n ts = keep (is_not_train n) ts
 
 -- ---- 01's equality of registers
 
--- 02, order 1: "Terms count when registers are compared."; order 7: "Two registers are now equal only if the recorded agreements are too, pending or
--- in force, for TWAs and TOAs.", where 01 compared the TOA that a TWA has agreed, and order 4 the TWA that a TOA has joined, while pending
+-- 02, order 1: "Terms count when registers are compared."; order 7: "Two registers are now equal only if the recorded
+-- agreements are too, pending or in force, for TWAs and TOAs.", where 01 compared the TOA that a TWA has agreed, and
+-- order 4 the TWA that a TOA has joined, while pending
 pub record SameAuthority (x y : Authority) : Type 0 where
   pub number : authority_no x ≡ authority_no y
   pub kind : x.kind ≡ y.kind
@@ -267,8 +268,9 @@ InOrder Like [] (y ∷ ys) = ⊥
 InOrder Like (x ∷ xs) [] = ⊥
 InOrder Like (x ∷ xs) (y ∷ ys) = Like x y × InOrder Like xs ys
 
--- "Two registers are equal when plan, last stamp, last number, blocks, live authorities and trains are equal as sets"; 02, order 5: "The comparison
--- with document 01's register includes that order from now on.", so place for place; order 6: "Bookings count when registers are compared."
+-- "Two registers are equal when plan, last stamp, last number, blocks, live authorities and trains are equal as sets";
+-- 02, order 5: "The comparison with document 01's register includes that order from now on.", so place for place; order
+-- 6: "Bookings count when registers are compared."
 pub record Same (b c : Board) : Type 0 where
   pub portions : b.portions ≡ c.portions
   pub gates : b.gates ≡ c.gates

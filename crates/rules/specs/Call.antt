@@ -1,6 +1,7 @@
--- The seven numbers of a call, what its fields are called, and their ranges (01, "The thirteen calls"; 02, order 1: TERM, order 4: JOIN, order 6:
--- BOOK OUT and BOOK IN). Assumes nothing.
-use Rattle.std.specs.Prelude.{ℕ, Option, Some, None, Result, Err, ◌+◌, ◌*◌, ◌/◌, ◌%◌, Bool, true, cond, not, ◌&&◌, List, [], ◌∷◌, length, get_or, eqb, leb, ltb}
+-- The seven numbers of a call, what its fields are called, and their ranges (01, "The thirteen calls"; 02, order 1:
+-- TERM, order 4: JOIN, order 6: BOOK OUT and BOOK IN). Assumes nothing.
+use Rattle.std.specs.Prelude.{ℕ, Option, Some, None, Result, Err, ◌+◌, ◌*◌, ◌/◌, ◌%◌, Bool, true, cond, not, ◌&&◌, List}
+use Rattle.std.specs.Prelude.{[], ◌∷◌, length, get_or, eqb, leb, ltb}
 use Rattle.std.specs.Option.{ok_or}
 use Rattle.rules.specs.declared.AuthorityNo.{AuthorityNo}
 use Rattle.rules.specs.declared.TrainNo.{TrainNo}
@@ -10,7 +11,8 @@ use Rattle.rules.specs.declared.kind.Kind.{Kind}
 use Rattle.rules.specs.declared.kind.Kind.TheVariants.{Lpa, Toa, Twa}
 use Rattle.rules.specs.declared.Seven.{Seven}
 use Rattle.rules.specs.declared.Call.{Call}
-use Rattle.rules.specs.declared.Call.TheVariants.{Request, Withdraw, Agree, Block, Unblock, Grant, Clear, Reoccupy, HandOver, Fulfil, Continue, Move, Passed, Term, Join, BookOut, BookIn}
+use Rattle.rules.specs.declared.Call.TheVariants.{Request, Withdraw, Agree, Block, Unblock, Grant, Clear, Reoccupy}
+use Rattle.rules.specs.declared.Call.TheVariants.{HandOver, Fulfil, Continue, Move, Passed, Term, Join, BookOut, BookIn}
 use Rattle.rules.specs.declared.refusal.Refusal.{Refusal}
 use Rattle.rules.specs.declared.refusal.Refusal.TheVariants.{NoSuchCall}
 use Rattle.rules.specs.declared.refusal.Refusal.TheVariants as Word
@@ -33,8 +35,8 @@ is_time time = ltb (time / 100) 24 && ltb (time % 100) 60
 unfoldable pub minute_of : ℕ → ℕ → ℕ
 minute_of day time = day * 1440 + time / 100 * 60 + time % 100
 
--- BOOK IN (02, order 6): "Certified 1 with new paper 0", "Certified 0 with a new paper other than the call's paper, 1 to 9999"; "Other combinations are
--- refused 3."
+-- BOOK IN (02, order 6): "Certified 1 with new paper 0", "Certified 0 with a new paper other than the call's paper, 1
+-- to 9999"; "Other combinations are refused 3."
 abbrev pub is_new_paper : ℕ → ℕ → ℕ → Bool
 is_new_paper paper certified new = cond (eqb certified 1) (eqb new 0) (between 1 9999 new && not (eqb new paper))
 
@@ -105,21 +107,28 @@ unfoldable pub calls : List Entry
 calls =
     entry (form Field.Kind Field.First Field.Last Field.Officer) (λ s. Some (Request (kind_of s.a) s.b s.c s.d))
     ∷ entry (form Field.Authority Field.Officer Field.Unused Field.Unused) (λ s. Some (Withdraw (authority_of s.a) s.b))
-    ∷ entry (form Field.Authority Field.Authority Field.Officer Field.Unused) (λ s. Some (Agree (authority_of s.a) (authority_of s.b) s.c))
+    ∷ entry (form Field.Authority Field.Authority Field.Officer Field.Unused)
+    (λ s. Some (Agree (authority_of s.a) (authority_of s.b) s.c))
     ∷ entry (form Field.Gate Field.Unused Field.Unused Field.Unused) (λ s. Some (Block (gate_of s.a)))
     ∷ entry (form Field.Gate Field.Unused Field.Unused Field.Unused) (λ s. Some (Unblock (gate_of s.a)))
     ∷ entry (form Field.Authority Field.Officer Field.Unused Field.Unused) (λ s. Some (Grant (authority_of s.a) s.b))
     ∷ entry (form Field.Authority Field.Officer Field.Unused Field.Unused) (λ s. Some (Clear (authority_of s.a) s.b))
     ∷ entry (form Field.Authority Field.Officer Field.Unused Field.Unused) (λ s. Some (Reoccupy (authority_of s.a) s.b))
-    ∷ entry (form Field.Authority Field.Officer Field.Officer Field.Unused) (λ s. Some (HandOver (authority_of s.a) s.b s.c))
-    ∷ entry (form Field.Authority Field.Officer Field.Assurances Field.Unused) (λ s. Some (Fulfil (authority_of s.a) s.b s.c))
-    ∷ entry (form Field.Authority Field.Authority Field.Officer Field.Officer) (λ s. Some (Continue (authority_of s.a) (authority_of s.b) s.c s.d))
-    ∷ entry (form Field.Train Field.Gate Field.AuthorityOrNone Field.OfficerOrNone) (λ s. Some (Move (train_of s.a) (gate_of s.b) (authority_of s.c) s.d))
+    ∷ entry (form Field.Authority Field.Officer Field.Officer Field.Unused)
+    (λ s. Some (HandOver (authority_of s.a) s.b s.c))
+    ∷ entry (form Field.Authority Field.Officer Field.Assurances Field.Unused)
+    (λ s. Some (Fulfil (authority_of s.a) s.b s.c))
+    ∷ entry (form Field.Authority Field.Authority Field.Officer Field.Officer)
+    (λ s. Some (Continue (authority_of s.a) (authority_of s.b) s.c s.d))
+    ∷ entry (form Field.Train Field.Gate Field.AuthorityOrNone Field.OfficerOrNone)
+    (λ s. Some (Move (train_of s.a) (gate_of s.b) (authority_of s.c) s.d))
     ∷ entry (form Field.Train Field.Unused Field.Unused Field.Unused) (λ s. Some (Passed (train_of s.a)))
     ∷ entry (form Field.Authority Field.Day Field.Time Field.Length) (λ s. Some (Term (authority_of s.a) s.b s.c s.d))
-    ∷ entry (form Field.Authority Field.Authority Field.Officer Field.Distance) (λ s. Some (Join (authority_of s.a) (authority_of s.b) s.c s.d))
+    ∷ entry (form Field.Authority Field.Authority Field.Officer Field.Distance)
+    (λ s. Some (Join (authority_of s.a) (authority_of s.b) s.c s.d))
     ∷ entry (form Field.Gate Field.Paper Field.Unused Field.Unused) (λ s. Some (BookOut (gate_of s.a) (paper_of s.b)))
-    ∷ entry (form Field.Gate Field.Paper Field.Certified Field.NewPaper) (λ s. Some (BookIn (gate_of s.a) (paper_of s.b) (eqb s.c 1) (paper_of s.d)))
+    ∷ entry (form Field.Gate Field.Paper Field.Certified Field.NewPaper)
+    (λ s. Some (BookIn (gate_of s.a) (paper_of s.b) (eqb s.c 1) (paper_of s.d)))
     ∷ []
 
 abbrev pub no_entry : Entry
@@ -147,4 +156,5 @@ in_ranges P G s = is_day s.day && is_time s.time && in_form P G (entry_of s.call
 
 -- the call read off the seven numbers on a board of P portions and G gates, or the refusal of its number or its fields
 unfoldable pub decoded : ℕ → ℕ → Seven → Result Call Refusal
-decoded P G s = cond (is_call s.call) (cond (in_ranges P G s) (ok_or (named s) NoSuchCall) (Err Word.Field)) (Err NoSuchCall)
+decoded P G s =
+    cond (is_call s.call) (cond (in_ranges P G s) (ok_or (named s) NoSuchCall) (Err Word.Field)) (Err NoSuchCall)

@@ -1,12 +1,13 @@
--- Demand 3's claim about what is reckoned from a list of calls, its four statements in the customer's words, the first with 02's order 4: by
--- portions, and not by the sets that a register holds. Assumes nothing.
+-- Demand 3's claim about what is reckoned from a list of calls, its four statements in the customer's words, the first
+-- with 02's order 4: by portions, and not by the sets that a register holds. Assumes nothing.
 use Rattle.std.specs.Prelude.{ℕ, ◌≤◌, ◌<◌, ◌≡◌, ◌⊎◌, Bool, true, List, length}
 use Rattle.rules.specs.declared.kind.Kind.TheVariants.{Toa, Twa}
 use Rattle.rules.specs.declared.Gate.{Gate}
 use Rattle.rules.specs.Board.{gate_at, exclusive}
 use Rattle.rules.specs.Reckoning.{Reckoned, Position, Reckoning}
 
--- the portion is in the limits: "a first and a last portion and all between". Outside, 99, is in none, since last is below 64.
+-- the portion is in the limits: "a first and a last portion and all between". Outside, 99, is in none, since last is
+-- below 64.
 abbrev pub In : Reckoned → ℕ → Type 0
 In x p = (x.first ≤ p) × (p ≤ x.last)
 
@@ -22,7 +23,8 @@ ByAgree x n y = (x.kind ≡ Toa) × (y.kind ≡ Twa) × (y.agreed ≡ n)
 abbrev pub ByJoin : Reckoned → ℕ → Reckoned → Type 0
 ByJoin x n y = (x.kind ≡ Twa) × (y.kind ≡ Toa) × (y.joined ≡ n)
 
--- "by the agreement of the officer there first" (02, order 4): x, with the number n, came into force earlier than y, and agreed to y
+-- "by the agreement of the officer there first" (02, order 4): x, with the number n, came into force earlier than y,
+-- and agreed to y
 abbrev pub Agreed : Reckoned → ℕ → Reckoned → Type 0
 Agreed x n y = (x.since < y.since) × (ByAgree x n y ⊎ ByJoin x n y)
 
@@ -46,7 +48,8 @@ Untouched A T =
 -- "each needed gate is blocked": of the gates of the plan, each whose "to" is in the limits and whose "from" isn't
 abbrev pub Protected : List Gate → (ℕ → Reckoned) → (ℕ → Bool) → Type 0
 Protected gates A B =
-    (n g : ℕ) → Forced A n → g < length gates → In (A n) (gate_at gates g).to → (In (A n) (gate_at gates g).from → ⊥) → B g ≡ true
+    (n g : ℕ) → Forced A n → g < length gates → In (A n) (gate_at gates g).to → (In (A n) (gate_at gates g).from → ⊥)
+    → B g ≡ true
 
 pub record Safe (gates : List Gate) (r : Reckoning) : Type 0 where
   pub apart : Apart r.authority

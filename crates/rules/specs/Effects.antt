@@ -1,5 +1,5 @@
--- What an accepted call does (01, "The thirteen calls"; 02, order 1: TERM, order 4: JOIN, order 5: the order, order 6: BOOK OUT and
--- BOOK IN). Nothing else changes. Assumes nothing.
+-- What an accepted call does (01, "The thirteen calls"; 02, order 1: TERM, order 4: JOIN, order 5: the order, order 6:
+-- BOOK OUT and BOOK IN). Nothing else changes. Assumes nothing.
 use Rattle.std.specs.Prelude.{ℕ, suc, Bool, true, false, cond, List, [], ◌∷◌, ◌++◌, set, eqb, Option, Some, None}
 use Rattle.lists.specs.Search.{change}
 use Rattle.lists.specs.Order.{insert_by}
@@ -12,8 +12,11 @@ use Rattle.rules.specs.declared.kind.Kind.{Kind}
 use Rattle.rules.specs.declared.Authority.{Authority}
 use Rattle.rules.specs.declared.Train.{Train}
 use Rattle.rules.specs.declared.Call.{Call}
-use Rattle.rules.specs.declared.Call.TheVariants.{Request, Withdraw, Agree, Block, Unblock, Grant, Clear, Reoccupy, HandOver, Fulfil, Continue, Move, Passed, Term, Join, BookOut, BookIn}
-use Rattle.rules.specs.Board.{Board, is_outside, no_booking, gate_at, is_in_force, has_workers_on, train_no, authority, train, with_authorities, with_trains, with_blocks, with_bookings, with_last, amended, ended, moved, gone}
+use Rattle.rules.specs.declared.Call.TheVariants.{Request, Withdraw, Agree, Block, Unblock, Grant, Clear, Reoccupy}
+use Rattle.rules.specs.declared.Call.TheVariants.{HandOver, Fulfil, Continue, Move, Passed, Term, Join, BookOut, BookIn}
+use Rattle.rules.specs.Board.{Board, is_outside, no_booking, gate_at, is_in_force, has_workers_on, train_no, authority}
+use Rattle.rules.specs.Board.{train, with_authorities, with_trains, with_blocks, with_bookings, with_last, amended}
+use Rattle.rules.specs.Board.{ended, moved, gone}
 use Rattle.rules.specs.Call.{authority_of, paper_of, minute_of}
 
 -- ---- what becomes of one authority
@@ -62,7 +65,8 @@ with_officer officer a = amended_to a officer (is_in_force a) (has_workers_on a)
 abbrev pub with_agreed : AuthorityNo → Authority → Authority
 with_agreed other a = amended_to a a.officer (is_in_force a) (has_workers_on a) other a.start a.length
 
--- TERM: "start day, start time, length in minutes": the minute in which the term starts, and its length. No other call changes it.
+-- TERM: "start day, start time, length in minutes": the minute in which the term starts, and its length. No other call
+-- changes it.
 abbrev pub with_term : ℕ → ℕ → Authority → Authority
 with_term start length a = amended_to a a.officer (is_in_force a) (has_workers_on a) a.agreed start length
 
@@ -104,8 +108,8 @@ continued old new limits ts = change (is_with old) (continued_with new limits) t
 abbrev pub booked_out : PaperNo → Booking
 booked_out paper = record { paper = paper; replaced = paper_of 0 }
 
--- BOOK IN: "Certified 1 with new paper 0 restores the gate. Certified 0 with a new paper [..] keeps it out under the new one, with the number of the
--- paper just replaced beside it."
+-- BOOK IN: "Certified 1 with new paper 0 restores the gate. Certified 0 with a new paper [..] keeps it out under the
+-- new one, with the number of the paper just replaced beside it."
 abbrev pub booked_in : PaperNo → Bool → PaperNo → Booking
 booked_in paper certified new = cond certified no_booking (record { paper = new; replaced = paper })
 
@@ -113,8 +117,8 @@ booked_in paper certified new = cond certified no_booking (record { paper = new;
 
 unfoldable pub effect : Board → Option Call → Board
 effect b None = b
--- REQUEST: "Numbers are allotted 1, 2, 3 up to 9999 and never reused.", so that the new one's place by ascending number (order 5) is the end;
--- "limits (a first and a last portion and all between, held as one set of portions)"
+-- REQUEST: "Numbers are allotted 1, 2, 3 up to 9999 and never reused.", so that the new one's place by ascending number
+-- (order 5) is the end; "limits (a first and a last portion and all between, held as one set of portions)"
 effect b (Some (Request kind first last officer)) =
     with_last (suc b.last)
     (with_authorities (b.authorities ++ (requested (suc b.last) kind (run first last) officer ∷ [])) b)
@@ -151,7 +155,8 @@ effect b (Some (Passed t)) =
     (cond (is_outside (train b t.0).head) (gone t.0 b.trains) (moved t.0 with_rear_in b.trains))
     b
 -- TERM
-effect b (Some (Term n day time length)) = with_authorities (amended n.0 (with_term (minute_of day time) length) b.authorities) b
+effect b (Some (Term n day time length)) =
+    with_authorities (amended n.0 (with_term (minute_of day time) length) b.authorities) b
 -- JOIN: "The TOA records the TWA"
 effect b (Some (Join twa toa officer distance)) = with_authorities (amended toa.0 (with_agreed twa) b.authorities) b
 -- BOOK OUT, BOOK IN: of that gate alone

@@ -6,8 +6,8 @@ use Rattle.rules.specs.declared.Seven.{Seven}
 abbrev pub journal_widths : List ℕ
 journal_widths = 6 ∷ 6 ∷ 6 ∷ 6 ∷ 6 ∷ 6 ∷ 6 ∷ 6 ∷ 6 ∷ []
 
--- "the seven numbers, the answer (0 or refusal), the number allotted by REQUEST (else 0), each right-justified in 6 columns, then
--- a line feed": 55 bytes
+-- "the seven numbers, the answer (0 or refusal), the number allotted by REQUEST (else 0), each right-justified in 6
+-- columns, then a line feed": 55 bytes
 unfoldable pub journal_line : Seven → ℕ → ℕ → List ℕ
 journal_line s answer number =
     line journal_widths

@@ -1,4 +1,5 @@
--- Document 01, with 02's orders 1 to 7, as definitions, in reading order. What a reader of the contracts must believe stands here.
+-- Document 01, with 02's orders 1 to 7, as definitions, in reading order. What a reader of the contracts must believe
+-- stands here.
 pub mod Board
 pub mod Call
 pub mod Refusals

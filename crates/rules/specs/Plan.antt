@@ -1,11 +1,13 @@
 -- Opening: the plan's text, and the board and the answer that it gives (01, "Track and gates"). Assumes nothing.
-use Rattle.std.specs.Prelude.{ℕ, zero, suc, ◌+◌, ◌*◌, Bool, true, cond, not, ◌&&◌, ◌||◌, List, [], ◌∷◌, length, take, drop, get_or, eqb, leb, ltb}
+use Rattle.std.specs.Prelude.{ℕ, zero, suc, ◌+◌, ◌*◌, Bool, true, cond, not, ◌&&◌, ◌||◌, List, [], ◌∷◌, length, take}
+use Rattle.std.specs.Prelude.{drop, get_or, eqb, leb, ltb}
 use Rattle.columns.specs.Reading.{Row, row_of}
 use Rattle.rules.specs.declared.Gate.{Gate}
 use Rattle.rules.specs.Board.{Board, opened, closed, is_outside}
 use Rattle.rules.specs.Call.{between}
 
--- "lines of three numbers, each right-justified in 6 columns behind blanks, no leading zeros, then a line feed: 19 bytes"
+-- "lines of three numbers, each right-justified in 6 columns behind blanks, no leading zeros, then a line feed: 19
+-- bytes"
 abbrev pub plan_widths : List ℕ
 plan_widths = 6 ∷ 6 ∷ 6 ∷ []
 
@@ -19,7 +21,8 @@ plan_number i text = get_or (plan_line text).numbers i 0
 -- "Line one is P, G, 0."; "P portions of track (1 to 64)"; "G gates (0 to 64)"
 unfoldable pub is_head : List ℕ → Bool
 is_head text =
-    (plan_line text).whole && between 1 64 (plan_number 0 text) && leb (plan_number 1 text) 64 && eqb (plan_number 2 text) 0
+    (plan_line text).whole && between 1 64 (plan_number 0 text) && leb (plan_number 1 text) 64
+    && eqb (plan_number 2 text) 0
 
 -- "From and to are each below P or 99, and differ; kind is 1 to 4."
 unfoldable pub is_place : ℕ → ℕ → Bool
@@ -51,7 +54,8 @@ is_plan text =
 
 -- the board that a text opens, and the answer; 20 plan: "plan text not as above; closed board"
 unfoldable pub open_board : List ℕ → Board
-open_board text = cond (is_plan text) (opened (plan_number 0 text) (gates_on (plan_number 1 text) (drop 19 text))) closed
+open_board text =
+    cond (is_plan text) (opened (plan_number 0 text) (gates_on (plan_number 1 text) (drop 19 text))) closed
 
 unfoldable pub open_answer : List ℕ → ℕ
 open_answer text = cond (is_plan text) 0 20

@@ -1,6 +1,7 @@
--- The conditions for refusal of each call, and its answer (01, "The thirteen calls" and "Refusal words"; 02, orders 1, 4 and 6). Assumes
--- nothing.
-use Rattle.std.specs.Prelude.{ℕ, ◌+◌, Bool, cond, not, ◌&&◌, ◌||◌, List, [], ◌∷◌, length, eqb, leb, ltb, Option, Some, None}
+-- The conditions for refusal of each call, and its answer (01, "The thirteen calls" and "Refusal words"; 02, orders 1,
+-- 4 and 6). Assumes nothing.
+use Rattle.std.specs.Prelude.{ℕ, ◌+◌, Bool, cond, not, ◌&&◌, ◌||◌, List, [], ◌∷◌, length, eqb, leb, ltb, Option, Some}
+use Rattle.std.specs.Prelude.{None}
 use Rattle.lists.specs.Search.{any, first, below}
 use Rattle.sets.specs.Sets.{has, shares}
 use Rattle.rules.specs.declared.Gate.{Gate}
@@ -8,8 +9,11 @@ use Rattle.rules.specs.declared.Authority.{Authority}
 use Rattle.rules.specs.declared.Train.{Train}
 use Rattle.rules.specs.declared.Seven.{Seven}
 use Rattle.rules.specs.declared.Call.{Call}
-use Rattle.rules.specs.declared.Call.TheVariants.{Request, Withdraw, Agree, Block, Unblock, Grant, Clear, Reoccupy, HandOver, Fulfil, Continue, Move, Passed, Term, Join, BookOut, BookIn}
-use Rattle.rules.specs.Board.{Board, is_outside, no_authority, gate_at, booking_at, is_out, is_plain, can_be_blocked, exclusive, is_lpa, is_toa, is_twa, is_in_force, has_workers_on, has_term, authority_no, is_train, live, authority, on_board, train, touches, touches_portion, needs}
+use Rattle.rules.specs.declared.Call.TheVariants.{Request, Withdraw, Agree, Block, Unblock, Grant, Clear, Reoccupy}
+use Rattle.rules.specs.declared.Call.TheVariants.{HandOver, Fulfil, Continue, Move, Passed, Term, Join, BookOut, BookIn}
+use Rattle.rules.specs.Board.{Board, is_outside, no_authority, gate_at, booking_at, is_out, is_plain, can_be_blocked}
+use Rattle.rules.specs.Board.{exclusive, is_lpa, is_toa, is_twa, is_in_force, has_workers_on, has_term, authority_no}
+use Rattle.rules.specs.Board.{is_train, live, authority, on_board, train, touches, touches_portion, needs}
 use Rattle.rules.specs.Call.{minute_of, is_call, named, in_ranges}
 
 -- ---- "The lowest number whose condition holds is given."
@@ -23,7 +27,8 @@ infix 70 ◌when◌
 abbrev pub ◌when◌ : ℕ → Bool → Refusal
 number when holds = record { number = number; holds = holds }
 
--- the first whose condition holds, 0 where none does. Each call's list is ascending (theorem `ascending`), so it is the lowest.
+-- the first whose condition holds, 0 where none does. Each call's list is ascending (theorem `ascending`), so it is the
+-- lowest.
 unfoldable pub lowest : List Refusal → ℕ
 lowest [] = 0
 lowest (r ∷ rs) = cond r.holds r.number (lowest rs)
@@ -65,21 +70,21 @@ unprotected b a = any (is_open b a.limits) (below (length b.gates))
 unfoldable pub occupied : Board → Authority → Bool
 occupied b a = any (touches a.limits) b.trains
 
--- 12 occupied, of CONTINUE: "for a new TWA, a train touches its limits; otherwise a train touches them that isn't with old or
--- whose head isn't in them"
+-- 12 occupied, of CONTINUE: "for a new TWA, a train touches its limits; otherwise a train touches them that isn't with
+-- old or whose head isn't in them"
 unfoldable pub in_the_way : ℕ → Authority → Train → Bool
 in_the_way old a t = touches a.limits t && (is_twa a.kind || not (eqb t.with.0 old) || not (has t.head a.limits))
 
 unfoldable pub occupied_beside : Board → ℕ → Authority → Bool
 occupied_beside b old a = any (in_the_way old a) b.trains
 
--- this rests on the agreement of that one's officer: "this is a TWA and that is the TOA it has agreed"; 02, order 4: "the matching exception", this
--- is a TOA and that is the TWA it has joined
+-- this rests on the agreement of that one's officer: "this is a TWA and that is the TOA it has agreed"; 02, order 4:
+-- "the matching exception", this is a TOA and that is the TWA it has joined
 unfoldable pub rests_on : Authority → Authority → Bool
 rests_on a o = (is_twa a.kind || is_toa a.kind) && eqb (authority_no o) a.agreed.0
 
--- 13 overlap: "another in force shares a portion, unless this is a TWA and that is the TOA it has agreed", or as order 4 says;
--- "For 13 old isn't counted": `old` is 0 in GRANT, and no authority has the number 0
+-- 13 overlap: "another in force shares a portion, unless this is a TWA and that is the TOA it has agreed", or as order
+-- 4 says; "For 13 old isn't counted": `old` is 0 in GRANT, and no authority has the number 0
 unfoldable pub clashes : ℕ → Authority → Authority → Bool
 clashes old a o =
     is_in_force o && not (eqb (authority_no o) (authority_no a)) && not (eqb (authority_no o) old)
@@ -180,7 +185,9 @@ barred b g to = has g b.blocks && not (any_e b to) && not (any_w b to)
 
 -- 19: "authority and officer aren't those of E, else those of W, else 0 and 0"
 unfoldable pub pilot : Board → ℕ → Authority
-pilot b to = cond (any_e b to) (first (is_e to) no_authority b.authorities) (cond (any_w b to) (the_w b to) no_authority)
+pilot b to =
+    cond (any_e b to) (first (is_e to) no_authority b.authorities)
+    (cond (any_w b to) (the_w b to) no_authority)
 
 unfoldable pub not_piloted : Board → ℕ → ℕ → ℕ → Bool
 not_piloted b to n officer = not (eqb n (authority_no (pilot b to)) && eqb officer (pilot b to).officer)
@@ -273,7 +280,8 @@ fulfil_refusals b n officer assurances =
     ∷ 15 when not (eqb assurances 7)
     ∷ []
 
--- CONTINUE {5; 6 old not in force or new not pending; 7 either; 11, 12, 13 for the new}; 22 for the new, order 1: behind 5, of the two that are live
+-- CONTINUE {5; 6 old not in force or new not pending; 7 either; 11, 12, 13 for the new}; 22 for the new, order 1:
+-- behind 5, of the two that are live
 abbrev pub of_continue : Board → Seven → ℕ → Authority → Authority → ℕ → ℕ → List Refusal
 of_continue b s old x y officer_old officer_new =
     6 when (not (is_in_force x) || is_in_force y)
@@ -316,7 +324,8 @@ term_refusals b s n start =
     ∷ 21 when too_soon s start
     ∷ []
 
--- JOIN, order 4 {"5, 6, 7, 8 as for AGREE": 5; 6 not a TWA in force and a pending TOA; 7 not the TWA's officer; 8 that TWA already recorded; 24}
+-- JOIN, order 4 {"5, 6, 7, 8 as for AGREE": 5; 6 not a TWA in force and a pending TOA; 7 not the TWA's officer; 8 that
+-- TWA already recorded; 24}
 abbrev pub join_refusals : Board → ℕ → ℕ → ℕ → ℕ → List Refusal
 join_refusals b twa toa officer distance =
     5 when (not_live b twa || not_live b toa)

@@ -1,4 +1,5 @@
--- The shift sheet, a page that the outgoing supervisor signs (02, order 2; order 7: the recorded agreement). Assumes nothing.
+-- The shift sheet, a page that the outgoing supervisor signs (02, order 2; order 7: the recorded agreement). Assumes
+-- nothing.
 use Rattle.std.specs.Prelude.{ℕ, ◌+◌, ◌*◌, ◌≡◌, Bool, cond, ◌&&◌, List, [], ◌∷◌, ◌++◌, map, length, drop, ltb}
 use Rattle.lists.specs.Search.{any}
 use Rattle.columns.specs.declared.cells.Cell.{Cell}
@@ -28,9 +29,9 @@ now_of b = minute_of b.day b.time
 unfoldable pub minutes_in_hand : ℕ → Authority → Cell
 minutes_in_hand now a = cond (has_term a) (difference (a.start + a.length) now) Empty
 
--- "number, kind, first, last, officer, stage (1 pending, 2 in force), site (1 on, 2 clear), minutes in hand": first and last are the least
--- and the greatest portion of the limits. Order 7: "Officers taking over a joint site want to know whose agreement it rests on. [..] The sheet gets it
--- as a ninth column, 0 for none"
+-- "number, kind, first, last, officer, stage (1 pending, 2 in force), site (1 on, 2 clear), minutes in hand": first and
+-- last are the least and the greatest portion of the limits. Order 7: "Officers taking over a joint site want to know
+-- whose agreement it rests on. [..] The sheet gets it as a ninth column, 0 for none"
 unfoldable pub authority_cells : ℕ → Authority → List Cell
 authority_cells now a =
     Number (authority_no a)
@@ -93,9 +94,11 @@ sheet b = page_of (sheet_lines b)
 abbrev pub is_short : ℕ → Bool
 is_short room = ltb room (33 * 73)
 
--- the whole result of writing the sheet of a register into a buffer: "later bytes stay and the number of lines comes back. 23 when it is shorter,
--- with nothing written."
+-- the whole result of writing the sheet of a register into a buffer: "later bytes stay and the number of lines comes
+-- back. 23 when it is shorter, with nothing written."
 pub record SheetPost (register : Register) (buffer : List ℕ) (given lines : ℕ) (buffer' : List ℕ) : Type 0 where
   pub answered : given ≡ cond (is_short (length buffer)) 23 0
   pub counted : lines ≡ cond (is_short (length buffer)) 0 (length (sheet_lines (board_of register)))
-  pub bytes : buffer' ≡ cond (is_short (length buffer)) buffer (sheet (board_of register) ++ drop (length (sheet (board_of register))) buffer)
+  pub bytes : buffer'
+      ≡ cond (is_short (length buffer)) buffer
+      (sheet (board_of register) ++ drop (length (sheet (board_of register))) buffer)

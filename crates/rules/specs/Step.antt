@@ -37,7 +37,8 @@ pub record Answered : Type 0 where
   pub seven : Seven
   pub answer : ℕ
 
--- the answers to a list of calls, and the board after it: each call is handed the board that the call before it returned
+-- the answers to a list of calls, and the board after it: each call is handed the board that the call before it
+-- returned
 unfoldable pub trace : Board → List Made → List Answered
 trace b [] = []
 trace b (m ∷ ms) =
@@ -49,8 +50,9 @@ final b (m ∷ ms) = final (after b m.seven m.room) ms
 
 -- ---- the functions
 
--- 02, order 5: "Hold live authorities and trains by ascending number after every call", so that "each live authority and each train on the board
--- is held once" (theorem `held_once`); "at most 32 are live", "At most 32 are on the board"; "Numbers are allotted 1, 2, 3 up to 9999"
+-- 02, order 5: "Hold live authorities and trains by ascending number after every call", so that "each live authority
+-- and each train on the board is held once" (theorem `held_once`); "at most 32 are live", "At most 32 are on the
+-- board"; "Numbers are allotted 1, 2, 3 up to 9999"
 pub record Once (b : Board) : Type 0 where
   pub authorities : Ascending authority_no b.authorities
   pub trains : Ascending train_no b.trains
@@ -71,8 +73,8 @@ pub record Bounds (r : Register) : Type 0 where
 abbrev pub Starts : Board → Type 0
 Starts b = (a : Authority) → Memᴰ a b.authorities → a.start < 10000 * 1440
 
--- what holds of every register that opening or a call returned: its lists are within what they can hold, what they hold is held once, by ascending
--- number, and terms start within the days
+-- what holds of every register that opening or a call returned: its lists are within what they can hold, what they hold
+-- is held once, by ascending number, and terms start within the days
 pub record Kept (r : Register) : Type 0 where
   pub bounds : Bounds r
   pub once : Once (board_of r)

@@ -1,5 +1,5 @@
--- Which numbers are members of what the machine's operations make of a set (`&`, `|`, `!`, `>>`, `<<`), digit by digit; and
--- that two sets with the same members are equal. Assumes nothing.
+-- Which numbers are members of what the machine's operations make of a set (`&`, `|`, `!`, `>>`, `<<`), digit by digit;
+-- and that two sets with the same members are equal. Assumes nothing.
 use mathlib.Core.Path.{◌≡◌, refl, sym, ◌∙◌}
 use mathlib.Core.Logic.{⊎_elim}
 use mathlib.Core.Bool.{false, not, ◌&&◌, ◌||◌, and-true}

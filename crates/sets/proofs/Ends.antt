@@ -1,4 +1,5 @@
--- The least and the greatest member of a set: what callers cite, and that the zeros at the two ends of a number tell them. Assumes nothing.
+-- The least and the greatest member of a set: what callers cite, and that the zeros at the two ends of a number tell
+-- them. Assumes nothing.
 use mathlib.Core.Path.{◌≡◌, refl, sym, ◌∙◌}
 use mathlib.Core.Logic.{⊎_elim}
 use mathlib.Core.Bool.{true, false}

@@ -27,7 +27,8 @@ entry_from rule i zero k h = absurd (not-suc-le-zero h)
 entry_from rule i (suc n) zero h = rw add-zero
 entry_from rule i (suc n) (suc k) h = entry_from rule (suc i) n k (le_of_suc-le-suc h) ∙ rw (suc-add, add-suc)
 
--- its entry k is the rule's value for k. A table of the source is that of a rule where antt computes the two to the same list
+-- its entry k is the rule's value for k. A table of the source is that of a rule where antt computes the two to the
+-- same list
 pub entry : (rule : ℕ → ℕ) (n k : ℕ) → k < n → get_or (values rule 0 n) k 0 ≡ rule k
 entry rule n k h = entry_from rule 0 n k h ∙ rw zero-add
 

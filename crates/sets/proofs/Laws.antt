@@ -4,7 +4,8 @@ use mathlib.Core.Logic.{◌⊎◌, inl, inr, ⊎_elim}
 use mathlib.Core.Bool.{Bool, true, false, cond, not, ◌&&◌, ◌||◌, and-true, and-false, or-false}
 use mathlib.Core.List.{List, ◌∷◌}
 use Prim.Native.Nat.{ℕ, zero, suc, ◌+◌, ◌*◌, ◌/◌, ◌%◌, ◌^◌, ◌≤◌, ◌<◌}
-use native.Mathlib.Nat.{zero-add, one-mul, le_refl, le_of_suc-le-suc, not-suc-le-zero, pow-suc, eq-or-lt_of_le, lt_of_lt_of_le, lt_of_le_of_lt}
+use native.Mathlib.Nat.{zero-add, one-mul, le_refl, le_of_suc-le-suc, not-suc-le-zero, pow-suc, eq-or-lt_of_le}
+use native.Mathlib.Nat.{lt_of_lt_of_le, lt_of_le_of_lt}
 use native.Mathlib.Nat.{mod-one, mod-lt, mod-eq_of_lt}
 use native.Mathlib.Numerals.{add-one, one-add}
 use native.Mathlib.Omega.{arith}
@@ -18,7 +19,8 @@ use Rattle.lists.specs.Search.{keep, below}
 use Rattle.lists.proofs.Search.{none_below, below_none, some_below, below_some}
 use Rattle.std.proofs.lemmas.Bool.{and_from, or_from, or_cases, not-true, not-false}
 use Rattle.lists.proofs.Tests.{told, lt_or_le, truth, clash, same_test, and_l, and_r, and_no_r}
-use Rattle.sets.specs.Sets.{has, set_of, between, run, is_or_in, insert, is_not_and_in, remove, in_both, shares, in_first_only, subset}
+use Rattle.sets.specs.Sets.{has, set_of, between, run, is_or_in, insert, is_not_and_in, remove, in_both, shares}
+use Rattle.sets.specs.Sets.{in_first_only, subset}
 use Rattle.sets.specs.Sets.{in_either, union, is_member, size}
 use Rattle.sets.proofs.Bits.{digit, same_members, has_none, has_high, has_and, has_or, has_power}
 
@@ -127,7 +129,8 @@ unfolding remove
 has-remove p set q h =
     closed_set_of 64 (is_not_and_in p set) q (λ out. rw (has_high 64 q set h out, and-false))
 
--- of any set: a number below 64 is a member of the set with p where it is p or was a member, of the set without p where it isn't p and was one
+-- of any set: a number below 64 is a member of the set with p where it is p or was a member, of the set without p where
+-- it isn't p and was one
 pub insert_below : (p set q : ℕ) → q < 64 → has q (insert p set) ≡ (eqb q p || has q set)
 unfolding insert
 insert_below p set q l = in_set_of 64 (is_or_in p set) q l

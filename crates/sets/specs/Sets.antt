@@ -1,5 +1,6 @@
 -- Sets of numbers below 64, each held as one number: p is a member where the binary digit of 2 ^ p is 1.
--- Every set is given by which numbers are members, and every definition computes at numerals of 64 bits. Assumes nothing.
+-- Every set is given by which numbers are members, and every definition computes at numerals of 64 bits. Assumes
+-- nothing.
 use Rattle.std.specs.Prelude.{ℕ, zero, suc, ◌+◌, ◌/◌, ◌%◌, ◌^◌, Bool, cond, not, ◌&&◌, ◌||◌, eqb, leb, length}
 use Rattle.lists.specs.Search.{any, first, last, keep, below}
 

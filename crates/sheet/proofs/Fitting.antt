@@ -22,7 +22,8 @@ use Rattle.rules.specs.declared.kind.Kind.TheVariants.{Lpa, Toa, Twa}
 use Rattle.rules.specs.declared.Authority.{Authority}
 use Rattle.rules.specs.Board.{Board, kind_no, is_in_force, has_workers_on, authority_no}
 use Rattle.rules.specs.Call.{minute_of}
-use Rattle.rules.specs.Sheet.{stage_no, site_no, minutes_in_hand, authority_cells, authority_widths, held_portions, total_cells, total_widths}
+use Rattle.rules.specs.Sheet.{stage_no, site_no, minutes_in_hand, authority_cells, authority_widths, held_portions}
+use Rattle.rules.specs.Sheet.{total_cells, total_widths}
 
 -- a number of no more digits than columns, and one of fewer behind a minus sign
 number_in : (w n : ℕ) → 0 < w → n < 10 ^ w → cell_fits w (Number n) ≡ true

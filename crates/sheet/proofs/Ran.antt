@@ -1,4 +1,5 @@
--- The sheet of a board's run, over the functions themselves: of a register that `open` or `call` returned, after any list of calls. Assumes nothing.
+-- The sheet of a board's run, over the functions themselves: of a register that `open` or `call` returned, after any
+-- list of calls. Assumes nothing.
 use Prim.Native.Nat.{ℕ, ◌≤◌, ◌<◌}
 use mathlib.Core.Path.{◌≡◌, sym, ap, subst, ◌∙◌}
 use mathlib.Core.List.{List, ◌++◌}
@@ -29,7 +30,8 @@ use Rattle.sheet.proofs.page.write_sheet.Reads as reads
 pub sheet_asked : {text : List ℕ} {ms : List Made} {cs : List Answered} (κs : Lfts 2) (a : Dens κs kinds.ps) → Ran text ms cs a.0.now → reads.Pre κs a
 sheet_asked κs a h = ran_kept h
 
--- THEOREM: first and last, and the kind, of each live authority are those of its REQUEST, read off the calls of the run and their answers
+-- THEOREM: first and last, and the kind, of each live authority are those of its REQUEST, read off the calls of the run
+-- and their answers
 pub ran_first-last : {text : List ℕ} {ms : List Made} {cs : List Answered} {r : Register} → Ran text ms cs r
     → (o : Authority) → Member o (board_of r).authorities
     → let x = (reckoned (open_board text).gates start cs).authority (authority_no o) in
@@ -45,8 +47,8 @@ pub ran_lines_ascend : {text : List ℕ} {ms : List Made} {cs : List Answered} {
     → (i j : ℕ) → i < j → j < length (board_of r).authorities → Ascend (board_of r) i j
 ran_lines_ascend {r = r} h = lines_ascend (board_of r) (ran_ascending h).0
 
--- THEOREM, order 7: the ninth column of each live authority's line is the number that its last AGREE or JOIN names, 0 for none, read off the calls of
--- the run and their answers
+-- THEOREM, order 7: the ninth column of each live authority's line is the number that its last AGREE or JOIN names, 0
+-- for none, read off the calls of the run and their answers
 pub ran_agreement_shown : {text : List ℕ} {ms : List Made} {cs : List Answered} {r : Register} → Ran text ms cs r
     → (o : Authority) → Member o (board_of r).authorities
     → get_or (authority_cells (now_of (board_of r)) o) 8 Empty ≡ Number (agreement ((reckoned (open_board text).gates start cs).authority (authority_no o)))
@@ -68,7 +70,8 @@ module _ (κs : Lfts 2) (a : Dens κs kinds.ps) (out : Result ℕ Refusal) (x : 
       let e = lt-ltb (length buffer) 2409 h in
       (p.answered ∙ rw e, p.counted ∙ rw e, p.bytes ∙ rw e)
 
-  -- THEOREM: after any run a buffer that is long enough has the sheet of the board that the rules give after its calls, and later bytes stay
+  -- THEOREM: after any run a buffer that is long enough has the sheet of the board that the rules give after its calls,
+  -- and later bytes stay
   pub ran_sheet : {text : List ℕ} {ms : List Made} {cs : List Answered} → Ran text ms cs a.0.now → 2409 ≤ length buffer
       → let b = final (open_board text) ms in
       (answer_no out ≡ 0) × (lines_no out ≡ length (sheet_lines b)) × (buffer' ≡ sheet b ++ drop (length (sheet b)) buffer)

@@ -1,4 +1,5 @@
--- `board::entry::call` meets its contract: a short buffer gives 1 and stays, else the call is taken and its line is written. Assumes nothing.
+-- `board::entry::call` meets its contract: a short buffer gives 1 and stays, else the call is taken and its line is
+-- written. Assumes nothing.
 use Rattle.board.proofs.Calling.{called_short, called_long}
 use Rattle.board.proofs.entry.call.Goals as goal
 

@@ -1,7 +1,8 @@
 -- `board::taking::allow` meets its contract: 2 and 3 by the decoded call, then 4, then the call's own. Assumes nothing.
 use Rattle.std.proofs.Common.{sym, ◌∙◌}
 use Rattle.rules.specs.Board.{board_of}
-use Rattle.board.proofs.Deciding.{Decoded, is_decoded, fault_answer, early_answer, own_answer, allowed_none, allowed_one}
+use Rattle.board.proofs.Deciding.{Decoded, is_decoded, fault_answer, early_answer, own_answer, allowed_none}
+use Rattle.board.proofs.Deciding.{allowed_one}
 use Rattle.board.proofs.taking.allow.Goals as goal
 use Rattle.board.proofs.taking.allow.Goals.{After-decode}
 

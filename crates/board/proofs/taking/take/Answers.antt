@@ -1,4 +1,5 @@
--- `board::taking::take` meets its contract: a refused call keeps its register, an accepted one gets its effect, its stamp and its number. Assumes nothing.
+-- `board::taking::take` meets its contract: a refused call keeps its register, an accepted one gets its effect, its
+-- stamp and its number. Assumes nothing.
 use Rattle.std.proofs.Common.{sym}
 use Rattle.effects.proofs.Rooms.{room_for}
 use Rattle.board.proofs.Deciding.{taken_none, taken_request, taken_other}

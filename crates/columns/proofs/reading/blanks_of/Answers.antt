@@ -1,4 +1,5 @@
--- `columns::reading::blanks_of` meets its contract: the blanks are as many as are taken from the text's front. Assumes nothing.
+-- `columns::reading::blanks_of` meets its contract: the blanks are as many as are taken from the text's front. Assumes
+-- nothing.
 use Rattle.std.proofs.Common.{◌∙◌, sym, ◌==◌, rules, tests}
 use Rattle.std.proofs.lemmas.Iterator.{YieldsList-from_slice}
 use Rattle.std.proofs.lemmas.Iterator.Consumers.{count_from_yields_List}

@@ -1,5 +1,5 @@
--- `columns::reading::number_from` meets its contract. The loop's invariant: scanning the rest of the digits behind the number is scanning
--- the whole, and the number is at most `most`. Assumes nothing.
+-- `columns::reading::number_from` meets its contract. The loop's invariant: scanning the rest of the digits behind the
+-- number is scanning the whole, and the number is at most `most`. Assumes nothing.
 use Rattle.std.proofs.Common.{◌<◌, ◌≡◌, sym, ◌∙◌, arith, length, get_or, None}
 use Rattle.columns.specs.Steps.{scan_digits}
 use Rattle.columns.proofs.Scan.{Goes, scan_step, scan_stop, scan_end}

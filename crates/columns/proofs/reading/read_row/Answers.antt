@@ -1,5 +1,5 @@
--- `columns::reading::read_row` meets its contract. The loop's invariant, `SoFar`: the row is the numbers read so far, and then the row of the
--- columns left. Assumes nothing.
+-- `columns::reading::read_row` meets its contract. The loop's invariant, `SoFar`: the row is the numbers read so far,
+-- and then the row of the columns left. Assumes nothing.
 use Rattle.std.proofs.Common.{sym, ◌∙◌, arith}
 use lib.ListN.{length-replicate}
 use Rattle.columns.proofs.Rows.{more_or_fewer, none_yet, row_short, row_bad, row_next, row_whole, row_other}

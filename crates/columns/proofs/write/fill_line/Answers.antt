@@ -1,5 +1,5 @@
--- `columns::write::fill_line` meets its contract. The loop's invariant: the numbers still to come fit, there is room for them from `at` on,
--- and the line is what stands before `at` and then their line. Assumes nothing.
+-- `columns::write::fill_line` meets its contract. The loop's invariant: the numbers still to come fit, there is room
+-- for them from `at` on, and the line is what stands before `at` and then their line. Assumes nothing.
 use Rattle.std.proofs.Common.{◌≡◌, refl, sym, ◌∙◌, ◌∷◌, arith}
 use Rattle.std.specs.Iterator.Adapters.{zip_first, zip_second}
 use Rattle.std.specs.Slice.Iter.{iter_rest}

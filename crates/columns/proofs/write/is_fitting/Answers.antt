@@ -1,4 +1,5 @@
--- `columns::write::is_fitting` meets its contract: its table is that of the powers of ten, and ten columns take every u32. Assumes nothing.
+-- `columns::write::is_fitting` meets its contract: its table is that of the powers of ten, and ten columns take every
+-- u32. Assumes nothing.
 use Rattle.std.proofs.Common.{arith, sym}
 use native.Mathlib.Nat.{pow-le-pow_right}
 use Rattle.columns.proofs.Writing.{fits_below}

@@ -1,5 +1,5 @@
--- `columns::write::line_size` meets its contract. The loop's invariant: the answer is that of the numbers still to come, with
--- `size` bytes counted. Assumes nothing.
+-- `columns::write::line_size` meets its contract. The loop's invariant: the answer is that of the numbers still to
+-- come, with `size` bytes counted. Assumes nothing.
 use Rattle.std.proofs.Common.{◌≡◌, sym, ◌∙◌, ◌∷◌, arith}
 use Rattle.std.specs.Iterator.Adapters.{zip_first, zip_second}
 use Rattle.std.specs.Slice.Iter.{iter_rest}

@@ -1,5 +1,5 @@
--- `columns::write::write_line` meets its contract: no length tells that nothing is to be written, and any how many bytes to lend.
--- Assumes nothing.
+-- `columns::write::write_line` meets its contract: no length tells that nothing is to be written, and any how many
+-- bytes to lend. Assumes nothing.
 use Rattle.std.proofs.Common.{sym, ap, ◌∙◌, ◌++◌, List, ℕ, length, drop, rules}
 use lib.Seq.{length-take-le}
 use Rattle.columns.proofs.Filling.{Sized, size_zero, size_some, written}

@@ -1,5 +1,5 @@
--- `plan::text::read_gates` meets its contract. The loop's invariant, `SoFar`: the whole is the gates of the lines read, and then what the
--- lines left hold. Assumes nothing.
+-- `plan::text::read_gates` meets its contract. The loop's invariant, `SoFar`: the whole is the gates of the lines read,
+-- and then what the lines left hold. Assumes nothing.
 use Rattle.std.proofs.Common.{arith, rules, ap, length, length-drop, ◌*◌, ◌∙◌}
 use Rattle.columns.proofs.Lines.{next_line}
 use Rattle.plan.proofs.Texts.{none_yet, all_read, not_gate, one_more}

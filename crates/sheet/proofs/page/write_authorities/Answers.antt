@@ -1,5 +1,5 @@
--- `sheet::page::write_authorities` meets its contract. The loop's invariant: the lines of the first i authorities stand on
--- the page. Assumes nothing.
+-- `sheet::page::write_authorities` meets its contract. The loop's invariant: the lines of the first i authorities stand
+-- on the page. Assumes nothing.
 use Rattle.std.proofs.Common.{refl, sym, ◌∙◌, ◌+◌, ◌*◌, ◌≤◌, arith, length, rules}
 use Rattle.columns.proofs.Writing.{part_length}
 use Rattle.sheet.proofs.Fitting.{authority_73, now_small}
