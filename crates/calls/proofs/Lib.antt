@@ -1,6 +1,5 @@
 -- The laws of a text of calls, and, not public, those that only the proofs of this crate's functions cite.
 pub mod Texts
-mod Rows
 pub mod Parts
 pub mod Lengths
 pub mod Counting

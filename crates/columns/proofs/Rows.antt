@@ -114,9 +114,10 @@ abbrev pub ended : Bool → Row
 ended whole = record { numbers = []; whole = whole }
 
 module _ (count most : ℕ) (ws s : List ℕ) where
-  -- as many numbers as columns are the row's
-  pub numbers_asked : length ws ≡ count → numbers_in count most ws s ≡ row_in most ws s
-  unfolding numbers_in
+  -- as many numbers as columns are the row's, where it is whole
+  pub numbers_asked : length ws ≡ count
+      → numbers_in count most ws s ≡ cond (row_of most ws s).whole (Some (row_of most ws s).numbers) None
+  unfolding numbers_in row_in
   numbers_asked a = rw (eq-eqb (length ws) count a)
 
   -- another number of columns holds nothing that is asked for
@@ -136,7 +137,6 @@ module _ (count most : ℕ) (ws s : List ℕ) where
   module _ (k : ℕ) (numbers rest : List ℕ) (so_far : SoFar k numbers rest) where
     -- the answer, where nothing more is read
     row_ended : (whole : Bool) → row_of most (drop k ws) rest ≡ ended whole → numbers_in count most ws s ≡ cond whole (Some (take k numbers)) None
-    unfolding row_in
     row_ended whole e = numbers_asked so_far.asked ∙ rw (so_far.row, e, append-nil (take k numbers))
 
     row_stop : k < length ws → first_column most (get_or ws k 0) rest ≡ None → None ≡ numbers_in count most ws s

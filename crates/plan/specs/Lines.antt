@@ -1,15 +1,10 @@
 -- What reading a plan's text leaves. Assumes nothing.
-use Rattle.std.specs.Prelude.{ℕ, ◌≤◌, ◌≡◌, cond, List, [], ◌∷◌, length, Option, Some, None, IfSome}
+use Rattle.std.specs.Prelude.{ℕ, ◌≤◌, ◌≡◌, cond, List, length, Option, Some, None, IfSome}
 use Rattle.std.specs.Option.{is_some}
 use Rattle.rules.specs.declared.Gate.{Gate}
 use Rattle.rules.specs.Board.{opened}
-use Rattle.rules.specs.Plan.{plan_line, plan_number, is_head, is_gate, gate_on, is_plan, open_board}
+use Rattle.rules.specs.Plan.{plan_number, is_head, is_gate, gate_on, is_plan, open_board}
 use Rattle.plan.specs.declared.text.Plan.{Plan}
-
--- the three numbers on a text's first line
-unfoldable pub line_in : List ℕ → Option (List ℕ)
-line_in text =
-    cond (plan_line text).whole (Some (plan_number 0 text ∷ plan_number 1 text ∷ plan_number 2 text ∷ [])) None
 
 -- P and G off line one, and the gate on another, where 01's tests of such a line hold
 unfoldable pub head_in : List ℕ → Option (ℕ × ℕ)

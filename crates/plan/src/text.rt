@@ -1,8 +1,9 @@
 // Reading a plan's text: lines of three numbers, the first with P, G and 0, then one for each gate.
 ghost use Rattle.std.specs.Prelude.{◌≡◌, ◌*◌, ◌≤◌, length, IfSome};
 ghost use Rattle.std.specs.Option.{is_some};
-ghost use Rattle.rules.specs.Plan.{is_place, are_gates, gates_on};
-ghost use Rattle.plan.specs.Lines.{line_in, head_in, gate_in, PlanRead};
+ghost use Rattle.columns.specs.Reading.{numbers_in};
+ghost use Rattle.rules.specs.Plan.{plan_widths, is_place, are_gates, gates_on};
+ghost use Rattle.plan.specs.Lines.{head_in, gate_in, PlanRead};
 
 use arrayvec::ArrayVec;
 use rules::Gate;
@@ -16,17 +17,13 @@ pub struct Plan {
 
 // The three numbers on a line.
 fn read_line(line: &[u8]) -> Option<[u16; 3]>
-    requires { length line.now ≡ 19 }
-    ensures { result ≡ line_in line.now }
+    ensures { result ≡ numbers_in 3 65535 plan_widths line.now }
 {
-    let [x, y, z] = columns::read_row::<3>(line, &[6; 3], 65535)?;
-    let first = u16::try_from(x).ok()?;
-    let second = u16::try_from(y).ok()?;
-    let third = u16::try_from(z).ok()?;
-    Some([first, second, third])
+    columns::read_row::<3>(line, &[6; 3], 65535)
 }
 
 // P and G off line one, which is P, G, 0: P is 1 to 64, G at most 64.
+#[tactic(auto, using(crate::proofs::Texts::numbers_on), unfolding(crate::specs::Lines::head_in, rules::specs::Plan::is_head, rules::specs::Plan::plan_number),)]
 fn read_head(line: &[u8]) -> Option<(u16, u16)>
     requires { length line.now ≡ 19 }
     ensures { result ≡ head_in line.now }
@@ -49,6 +46,7 @@ fn is_place(portions: u16, place: u16) -> bool
 }
 
 // The gate on a line: from and to are places and differ, and the kind is 1 to 4.
+#[tactic(auto, using(crate::proofs::Texts::numbers_on), unfolding(crate::specs::Lines::gate_in, rules::specs::Plan::is_gate, rules::specs::Plan::gate_on, rules::specs::Plan::plan_number))]
 fn read_gate(line: &[u8], portions: u16) -> Option<Gate>
     requires { length line.now ≡ 19 }
     ensures { result ≡ gate_in portions line.now }
@@ -80,6 +78,7 @@ fn read_gates(text: &[u8], portions: u16, count: usize) -> Option<ArrayVec<Gate,
 }
 
 // The plan in a text, of any bytes and any length.
+#[tactic(auto, using(crate::proofs::Texts::no_plan))]
 pub fn read_plan(text: &[u8]) -> Option<Plan>
     ensures { PlanRead text.now result }
 {
