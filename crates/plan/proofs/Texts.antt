@@ -18,7 +18,8 @@ use Rattle.lists.proofs.Tests.{told, lt_or_le, same_test}
 use Rattle.columns.specs.Reading.{numbers_in}
 use Rattle.columns.proofs.Rows.{numbers_asked}
 use Rattle.rules.specs.declared.Gate.{Gate}
-use Rattle.rules.specs.Plan.{plan_widths, plan_line, plan_number, is_head, is_gate, gate_on, are_gates, gates_on, is_plan, open_board}
+use Rattle.rules.specs.Plan.{plan_widths, plan_line, plan_number, is_head, is_gate, gate_on, are_gates, gates_on}
+use Rattle.rules.specs.Plan.{is_plan, open_board}
 use Rattle.plan.specs.declared.text.Plan.{Plan}
 use Rattle.plan.specs.Lines.{head_in, gate_in, PlanRead}
 

@@ -23,7 +23,7 @@ fn read_line(line: &[u8]) -> Option<[u16; 3]>
 }
 
 // P and G off line one, which is P, G, 0: P is 1 to 64, G at most 64.
-#[tactic(auto, using(crate::proofs::Texts::numbers_on), unfolding(crate::specs::Lines::head_in, rules::specs::Plan::is_head, rules::specs::Plan::plan_number),)]
+#[tactic(auto, using(crate::proofs::Texts::numbers_on), unfolding(crate::specs::Lines::head_in, rules::specs::Plan::is_head, rules::specs::Plan::plan_number))]
 fn read_head(line: &[u8]) -> Option<(u16, u16)>
     requires { length line.now ≡ 19 }
     ensures { result ≡ head_in line.now }
