@@ -1,5 +1,9 @@
-// What goes wrong outside documents 01 and 02, and its words on standard error.
+// What goes wrong outside documents 01 and 02, its words on standard error, and the exit status.
+ghost use Rattle.std.specs.Prelude.{◌≡◌, IsOk, IsErr};
+ghost use Rattle.std.specs.Process.{exit_status};
+
 use std::fmt::InlineText;
+use std::process::ExitCode;
 use std::{fmt, io, str};
 
 // Why a run did not come to its end.
@@ -47,5 +51,17 @@ fn without_code(text: &str) -> &str {
 pub fn say_failure<R: Eprint>(rt: &R, outcome: Result<(), Failure>) {
     if let Err(failure) = outcome {
         let _ = eprintln!(rt; "{failure}");
+    }
+}
+
+// Ends a run: says on standard error what failed, where something did, and gives the exit status.
+pub fn end_run<R: Eprint>(rt: &R, outcome: Result<(), Failure>) -> ExitCode
+    ensures done { IsOk outcome.entry → exit_status result ≡ 0 }
+    ensures failed { IsErr outcome.entry → exit_status result ≡ 1 }
+{
+    say_failure(rt, outcome);
+    match outcome {
+        Ok(()) => ExitCode::SUCCESS,
+        Err(_) => ExitCode::FAILURE,
     }
 }

@@ -1,12 +1,13 @@
 // The calls of a working folder: the board opened from the file `plan`, and the calls of the file `calls` made on it in
 // pieces of whole lines.
-ghost use Rattle.std.specs.Prelude.{◌≡◌, length};
+ghost use Rattle.std.specs.Prelude.{◌≡◌, ◌↔◌, ◌*◌, ◌^◌, ◌<◌, ◌≤◌, length, IsOk};
 
-use crate::failure::{Failure, say_failure};
+use crate::failure::{Failure, end_run};
 use crate::input::{fill, open, read_file};
 use crate::open_board::Board;
 use crate::output::{print, print_number};
 use std::io::Read;
+use std::process::ExitCode;
 use std::rt::Files;
 
 // A call's line has 43 bytes and its journal line 55.
@@ -29,6 +30,21 @@ pub const PLAN_SIZE: usize = 65 * 19 + 1;
 // reached.
 const MOST_PIECES: u64 = 1 << 50;
 
+// Fails at a malformed line: where a piece has more than the lines whose calls were made. `piece` is the number of whole
+// pieces before it.
+fn check_lines(piece: u64, lines: usize, bytes: usize) -> Result<(), Failure<'static>>
+    requires { (piece < 2 ^ 50) × (lines ≤ 8192) }
+    ensures { IsOk result ↔ 43 * lines ≡ bytes }
+{
+    if CALL_SIZE * lines == bytes {
+        return Ok(());
+    }
+    // Kept: casts, which lose nothing: a count of lines has no `From` into 64 bits.
+    Err(Failure::Malformed {
+        line: PIECE_LINES as u64 * piece + lines as u64 + 1,
+    })
+}
+
 // Runs the calls of the file, piece by piece, and hands the journal lines of each on.
 fn run_pieces<'a, F: Read, L: Fn(&[u8]) -> Result<(), Failure<'a>>>(
     opened: Board,
@@ -47,12 +63,7 @@ fn run_pieces<'a, F: Read, L: Fn(&[u8]) -> Result<(), Failure<'a>>>(
         board = next;
         on_lines(&out[..LINE_SIZE * lines])?;
         filled.check(b"calls")?;
-        if CALL_SIZE * lines != filled.bytes {
-            // Kept: casts, which lose nothing: a count of lines has no `From` into 64 bits.
-            return Err(Failure::Malformed {
-                line: PIECE_LINES as u64 * piece + lines as u64 + 1,
-            });
-        }
+        check_lines(piece, lines, filled.bytes)?;
         if filled.bytes < text.len() {
             return Ok(board);
         }
@@ -104,8 +115,8 @@ pub fn run_folder<'a, R: Files + Print, L: Fn(&[u8]) -> Result<(), Failure<'a>>>
     Ok(Some(run_calls(board, &mut file, on_lines)?))
 }
 
-// Prints the journal of the files `plan` and `calls`.
-pub fn print_journal<R: Files + Print + Eprint>(rt: &R) {
+// Prints the journal of the files `plan` and `calls`, and gives the exit status.
+pub fn print_journal<R: Files + Print + Eprint>(rt: &R) -> ExitCode {
     let ran = run_folder(rt, &|lines: &[u8]| print(rt, lines));
-    say_failure(rt, ran.map(|_board| ()));
+    end_run(rt, ran.map(|_board| ()))
 }

@@ -1,8 +1,9 @@
 // The shift sheet, printed.
-use crate::failure::{Failure, say_failure};
+use crate::failure::{Failure, end_run};
 use crate::journal::run_folder;
 use crate::open_board::Board;
 use crate::output::print;
+use std::process::ExitCode;
 use std::rt::Files;
 
 // Prints the sheet of a board: 33 lines of 73 bytes are room enough.
@@ -23,7 +24,8 @@ fn print_folder<R: Files + Print>(rt: &R) -> Result<(), Failure<'static>> {
     }
 }
 
-// Prints the sheet after the calls of the files `plan` and `calls`, where all of them were made.
-pub fn print_sheet<R: Files + Print + Eprint>(rt: &R) {
-    say_failure(rt, print_folder(rt));
+// Prints the sheet after the calls of the files `plan` and `calls`, where all of them were made, and gives the exit
+// status.
+pub fn print_sheet<R: Files + Print + Eprint>(rt: &R) -> ExitCode {
+    end_run(rt, print_folder(rt))
 }

@@ -2,6 +2,8 @@
 // a list can reach.
 #![tactic(auto)]
 
-fn main(rt: HostRuntime) {
-    folder::print_journal(&rt);
+use std::process::ExitCode;
+
+fn main(rt: HostRuntime) -> ExitCode {
+    folder::print_journal(&rt)
 }
