@@ -5,12 +5,12 @@ use mathlib.Core.Path.{◌≡◌, refl, sym, ◌∙◌}
 use mathlib.Core.Bool.{Bool, true, false, ◌||◌}
 use mathlib.Core.List.{List, [], ◌∷◌}
 use borrow.Author.Tests.{eq-eqb, ne_eqb}
-use Rattle.std.specs.Prelude.{Option, Some, None, find}
+use Rattle.std.specs.Prelude.{Option, Some, find}
 use Rattle.std.proofs.lemmas.Bool.{not_from_false, not_from_true}
 use Rattle.rules.specs.declared.Authority.{Authority}
 use Rattle.rules.specs.Board.{Board, is_authority, authority}
 use Rattle.rules.specs.Refusals.{Refusal, ◌when◌, lowest, not_live}
-use Rattle.authorities.proofs.AuthorityLaws.{not_found, found}
+use Rattle.authorities.proofs.AuthorityLaws.{found}
 
 -- ---- the first refusal that holds
 
@@ -35,33 +35,13 @@ pub ruleset refusals = (holds, fails, none, not_from_false, not_from_true, of_ca
 
 -- ---- the authority with a number, looked for
 
--- a call that names it alone is answered 5 where it is not live, else by its other refusals, of the authority found
-module _ (b : Board) (n : ℕ) (rs : List Refusal)
-    {f : Option Authority} (looked : f ≡ find (is_authority n) b.authorities) where
-  pub not_live_lem : f ≡ None → 5 ≡ lowest (5 when not_live b n ∷ rs)
-  not_live_lem none' = holds 5 _ rs (not_found b n looked none')
-
-  pub is_live : {a : Authority} {v : ℕ} → f ≡ Some a → (authority b n ≡ a → v ≡ lowest rs)
-      → v ≡ lowest (5 when not_live b n ∷ rs)
-  is_live is decided = let h = found b n looked is in fails 5 _ _ rs h.0 (decided h.1)
-
--- one that names two is answered 5 where either is not live, else by its other refusals, of the two found
-module _ (b : Board) (n m : ℕ) (rs : List Refusal)
-    {f : Option Authority} (looked : f ≡ find (is_authority n) b.authorities) where
-  pub first_not_live : f ≡ None → 5 ≡ lowest (5 when (not_live b n || not_live b m) ∷ rs)
-  unfolding lowest
-  first_not_live none' = rw (not_found b n looked none')
-
-  module _ {a : Authority} (is : f ≡ Some a)
-      {g : Option Authority} (looked_too : g ≡ find (is_authority m) b.authorities) where
-    pub second_not_live : g ≡ None → 5 ≡ lowest (5 when (not_live b n || not_live b m) ∷ rs)
-    unfolding lowest
-    second_not_live none' = rw ((found b n looked is).0, not_found b m looked_too none')
-
-    pub both_live : {c : Authority} {v : ℕ} → g ≡ Some c → (authority b n ≡ a → authority b m ≡ c → v ≡ lowest rs)
-        → v ≡ lowest (5 when (not_live b n || not_live b m) ∷ rs)
-    unfolding lowest
-    both_live is' decided =
-        let h = found b n looked is in
-        let k = found b m looked_too is' in
-        rw (h.0, k.0) (decided h.1 k.1)
+-- a call that names two is answered 5 where either is not live, else by its other refusals, of the two found
+pub both_live : (b : Board) (n m : ℕ) (rs : List Refusal) {f : Option Authority} (looked : f ≡ find (is_authority n) b.authorities)
+    {a : Authority} (is : f ≡ Some a) {g : Option Authority} (looked_too : g ≡ find (is_authority m) b.authorities)
+    {c : Authority} {v : ℕ} → g ≡ Some c → (authority b n ≡ a → authority b m ≡ c → v ≡ lowest rs)
+    → v ≡ lowest (5 when (not_live b n || not_live b m) ∷ rs)
+unfolding lowest
+both_live b n m rs looked is looked_too is' decided =
+    let h = found b n looked is in
+    let k = found b m looked_too is' in
+    rw (h.0, k.0) (decided h.1 k.1)

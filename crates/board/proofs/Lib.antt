@@ -1,6 +1,6 @@
 -- The laws that the functions' proofs cite, and the run of a board over the functions themselves.
 pub mod Deciding
 pub mod Calling
-pub mod Opening
-pub mod Writing
+pub mod OpeningBoard
+pub mod JournalWritten
 pub mod Ran

@@ -6,8 +6,8 @@ use lib.ListN.{length, take, drop}
 use Rattle.rules.specs.declared.Seven.{Seven}
 use Rattle.rules.specs.declared.Register.{Register}
 use Rattle.std.specs.Prelude.{Option, Some, None}
-use Rattle.calls.specs.Line.{line_in}
-use Rattle.calls.specs.Lines.{unless_malformed, calls_in}
+use Rattle.calls.specs.CallLine.{line_in}
+use Rattle.calls.specs.CallsIn.{unless_malformed, calls_in}
 use Rattle.calls.specs.Run.{run_of, RunPost}
 
 one_more : (line : Option Seven) (calls : List Seven) (n : ℕ) → length calls ≤ n → length (unless_malformed line calls) ≤ suc n

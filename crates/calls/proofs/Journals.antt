@@ -15,8 +15,8 @@ use Rattle.columns.proofs.Rows.{at_most}
 use Rattle.rules.specs.declared.Seven.{Seven}
 use Rattle.rules.specs.Journal.{journal_line}
 use Rattle.std.specs.Prelude.{Some}
-use Rattle.calls.specs.Line.{call_widths, line_in}
-use Rattle.calls.proofs.Texts.{numbers_of, call_line, six_fit}
+use Rattle.calls.specs.CallLine.{call_widths, line_in}
+use Rattle.calls.proofs.CallLines.{numbers_of, call_line, six_fit}
 
 -- a line without its line feed, with another line behind it, is one line
 line_append : (ws vs ns ms : List ℕ) → all_fit ws ns ≡ true → take (total ws) (line ws ns) ++ line vs ms ≡ line (ws ++ vs) (ns ++ ms)

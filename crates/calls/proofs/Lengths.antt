@@ -17,12 +17,12 @@ use Rattle.rules.specs.Refusals.{answer}
 use Rattle.rules.specs.Step.{Once, after, allotted}
 use Rattle.rules.proofs.Answers.{answer_most}
 use Rattle.rules.proofs.Once.{once_after}
-use Rattle.rules.proofs.Lines.{Small, line_55}
+use Rattle.rules.proofs.JournalLength.{Small, line_55}
 use Rattle.std.specs.Prelude.{Option, Some, None}
-use Rattle.calls.specs.Line.{line_in}
-use Rattle.calls.specs.Lines.{unless_malformed, calls_in}
+use Rattle.calls.specs.CallLine.{line_in}
+use Rattle.calls.specs.CallsIn.{unless_malformed, calls_in}
 use Rattle.calls.specs.Run.{journal, run_of}
-use Rattle.calls.proofs.Texts.{numbers_of, call_line}
+use Rattle.calls.proofs.CallLines.{numbers_of, call_line}
 use Rattle.calls.proofs.Parts.{line_on}
 
 -- ---- a journal line

@@ -19,8 +19,8 @@ use Rattle.rules.specs.Reckoning.{start, reckoned}
 use Rattle.rules.specs.Claim.{Safe}
 use Rattle.rules.proofs.Safety.{demand_3}
 use Rattle.std.specs.Prelude.{Option, Some, None}
-use Rattle.calls.specs.Line.{line_in}
-use Rattle.calls.specs.Lines.{unless_malformed, calls_in}
+use Rattle.calls.specs.CallLine.{line_in}
+use Rattle.calls.specs.CallsIn.{unless_malformed, calls_in}
 use Rattle.calls.specs.Run.{made, journal, Run, run_of, ◌then_run◌}
 
 -- ---- a run call by call

@@ -15,9 +15,9 @@ use Rattle.rules.specs.declared.Register.{Register}
 use Rattle.rules.specs.Board.{Board, board_of}
 use Rattle.rules.specs.Step.{Kept, after}
 use Rattle.std.specs.Prelude.{Option, Some, None}
-use Rattle.calls.specs.Line.{line_in}
+use Rattle.calls.specs.CallLine.{line_in}
 use Rattle.calls.specs.Run.{run_of, ◌then_run◌, RunPost}
-use Rattle.calls.proofs.Texts.{call_length}
+use Rattle.calls.proofs.CallLines.{call_length}
 use Rattle.calls.proofs.Parts.{going, line_on, run_none, run_malformed, run_call}
 
 -- ---- the line from a place on

@@ -1,4 +1,4 @@
 -- The definitions that the contracts of this crate cite, in reading order.
-pub mod Line
-pub mod Lines
+pub mod CallLine
+pub mod CallsIn
 pub mod Run

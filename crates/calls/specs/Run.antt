@@ -7,7 +7,7 @@ use Rattle.rules.specs.Board.{Board, board_of}
 use Rattle.rules.specs.Refusals.{answer}
 use Rattle.rules.specs.Journal.{journal_line}
 use Rattle.rules.specs.Step.{Made, Kept, after, allotted, final}
-use Rattle.calls.specs.Lines.{calls_in}
+use Rattle.calls.specs.CallsIn.{calls_in}
 
 -- a call made with room for its line, 55 bytes
 abbrev pub made : Seven → Made

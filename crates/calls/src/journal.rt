@@ -2,7 +2,7 @@
 ghost use Rattle.std.specs.Prelude.{◌≡◌, Some, length};
 ghost use Rattle.rules.specs.Answer.{answer_no, number_no};
 ghost use Rattle.rules.specs.Journal.{journal_line};
-ghost use Rattle.calls.specs.Line.{line_in};
+ghost use Rattle.calls.specs.CallLine.{line_in};
 
 use columns::write_line;
 use rules::{Answer, Seven, allotted_number, answer_number};

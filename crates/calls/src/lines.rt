@@ -1,11 +1,11 @@
 // A call line read: the seven numbers of a call in columns of six.
 ghost use Rattle.std.specs.Prelude.{◌≡◌};
-ghost use Rattle.calls.specs.Line.{line_in};
+ghost use Rattle.calls.specs.CallLine.{line_in};
 
 use rules::Seven;
 
 // The call on a line: a text of 43 bytes, and any other is malformed.
-#[tactic(auto, using(columns::proofs::Rows::numbers_asked), unfolding(crate::specs::Line::line_in))]
+#[tactic(auto, using(columns::proofs::Rows::numbers_asked), unfolding(crate::specs::CallLine::line_in))]
 pub fn read_line(text: &[u8]) -> Option<Seven>
     ensures { result ≡ line_in text.now }
 {

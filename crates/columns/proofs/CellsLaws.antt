@@ -19,7 +19,7 @@ use Rattle.columns.specs.Reading.{blanks, value_from}
 use Rattle.columns.proofs.Digits.{digits_one, digits_more}
 use Rattle.columns.proofs.Writing.{filled_column, part_done, total}
 use Rattle.columns.proofs.Scan.{by_tenths, starts, value_digits, blanks_front, blanks_le}
-use Rattle.columns.proofs.Texts.{value_blanks}
+use Rattle.columns.proofs.SameText.{value_blanks}
 use Rattle.columns.specs.declared.cells.Cell.{Cell}
 use Rattle.columns.specs.declared.cells.Cell.TheVariants.{Empty, Number, Minus}
 use Rattle.columns.specs.Cells.{difference, marks, cell, cell_fits, cell_line, cells_fit, is_printed, is_minus, cell_in}

@@ -2,10 +2,10 @@
 pub mod Digits
 pub mod Writing
 mod Filling
-pub mod Examples
+pub mod ColumnExamples
 pub mod Scan
-pub mod Texts
+pub mod SameText
 pub mod ReadingLaws
 pub mod Rows
-pub mod Lines
+pub mod Chunks
 pub mod CellsLaws

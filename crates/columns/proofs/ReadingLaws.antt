@@ -18,7 +18,7 @@ use Rattle.columns.specs.Reading.{blanks, value_from, is_column, read_column}
 use Rattle.columns.specs.Steps.{scan_digits}
 use Rattle.columns.proofs.Writing.{column-length}
 use Rattle.columns.proofs.Scan.{unread, scan_step, bare, bare-digits, bare_is, blanks_front, blanks_split}
-use Rattle.columns.proofs.Texts.{same_refl, same_eq, value_column}
+use Rattle.columns.proofs.SameText.{same_refl, same_eq, value_column}
 
 -- a number that fits its columns is read back from them
 pub read_column_lem : (most w n : ℕ) → fits w n ≡ true → n ≤ most → read_column most (column w n) ≡ Some n

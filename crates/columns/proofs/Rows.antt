@@ -19,7 +19,7 @@ use Rattle.columns.specs.Column.{column, fits}
 use Rattle.columns.specs.Line.{line, all_fit}
 use Rattle.columns.specs.Reading.{same_text, read_column, first_column, Row, with_column, row_of, row_in, numbers_in}
 use Rattle.columns.proofs.Scan.{unread}
-use Rattle.columns.proofs.Texts.{same_eq}
+use Rattle.columns.proofs.SameText.{same_eq}
 use Rattle.columns.proofs.Writing.{column-length}
 use Rattle.columns.proofs.ReadingLaws.{read_column_lem, column_read, read_most}
 

@@ -1,1 +1,1 @@
-mod Filling
+mod PartRead

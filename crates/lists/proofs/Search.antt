@@ -9,8 +9,7 @@ use mathlib.Core.Logic.{◌⊎◌, inl, inr, ⊎_elim}
 use mathlib.Core.Bool.{Bool, true, false, cond, ◌||◌, false≢true, or_assoc}
 use mathlib.Core.List.Memᴰ
 use mathlib.Core.List.{List, [], ◌∷◌, ◌++◌, Memᴰ}
-use lib.ListN.{length, take, get_or}
-use lib.Seq.{get_or-take, length-take-le}
+use lib.ListN.{length, get_or}
 use Rattle.lists.specs.Search.{any, first, last, keep, change, below}
 use Rattle.std.proofs.lemmas.Bool.{cond_both, or_from}
 use Rattle.lists.proofs.Tests.{truth, clash, or_no_l, or_no_r}
@@ -156,12 +155,6 @@ pub member_at : {A : Type 0} (d : A) (xs : List A) (i : ℕ) → i < length xs �
 member_at d [] i l = absurd (omega arith)
 member_at d (x ∷ xs) zero l = Memᴰ.head refl
 member_at d (x ∷ xs) (suc i) l = Memᴰ.tail (member_at d xs i (omega arith))
-
--- one of the first `count`
-pub prefix_member : {A : Type 0} (l : List A) (count i : ℕ) (d : A) → i < count → count ≤ length l
-    → Member (get_or l i d) (take count l)
-prefix_member l count i d h k =
-    rw (← get_or-take count l i d h) (member_at d (take count l) i (omega (arith, length-take-le count l k)))
 
 module _ {A : Type 0} (P : A → Type 0) where
   -- P holds of each element

@@ -1,2 +1,2 @@
 -- The laws that reading a plan stands on.
-mod Texts
+mod PlanTexts

@@ -3,7 +3,7 @@ ghost use Rattle.std.specs.Prelude.{◌≡◌, ◌*◌, ◌≤◌, length, IfSom
 ghost use Rattle.std.specs.Option.{is_some};
 ghost use Rattle.columns.specs.Reading.{numbers_in};
 ghost use Rattle.rules.specs.Plan.{plan_widths, is_place, are_gates, gates_on};
-ghost use Rattle.plan.specs.Lines.{head_in, gate_in, PlanRead};
+ghost use Rattle.plan.specs.PlanLines.{head_in, gate_in, PlanRead};
 
 use arrayvec::ArrayVec;
 use rules::Gate;
@@ -23,7 +23,7 @@ fn read_line(line: &[u8]) -> Option<[u16; 3]>
 }
 
 // P and G off line one, which is P, G, 0: P is 1 to 64, G at most 64.
-#[tactic(auto, using(crate::proofs::Texts::numbers_on), unfolding(crate::specs::Lines::head_in, rules::specs::Plan::is_head, rules::specs::Plan::plan_number))]
+#[tactic(auto, using(crate::proofs::PlanTexts::numbers_on), unfolding(crate::specs::PlanLines::head_in, rules::specs::Plan::is_head, rules::specs::Plan::plan_number))]
 fn read_head(line: &[u8]) -> Option<(u16, u16)>
     requires { length line.now ≡ 19 }
     ensures { result ≡ head_in line.now }
@@ -46,7 +46,7 @@ fn is_place(portions: u16, place: u16) -> bool
 }
 
 // The gate on a line: from and to are places and differ, and the kind is 1 to 4.
-#[tactic(auto, using(crate::proofs::Texts::numbers_on), unfolding(crate::specs::Lines::gate_in, rules::specs::Plan::is_gate, rules::specs::Plan::gate_on, rules::specs::Plan::plan_number))]
+#[tactic(auto, using(crate::proofs::PlanTexts::numbers_on), unfolding(crate::specs::PlanLines::gate_in, rules::specs::Plan::is_gate, rules::specs::Plan::gate_on, rules::specs::Plan::plan_number))]
 fn read_gate(line: &[u8], portions: u16) -> Option<Gate>
     requires { length line.now ≡ 19 }
     ensures { result ≡ gate_in portions line.now }
@@ -78,7 +78,7 @@ fn read_gates(text: &[u8], portions: u16, count: usize) -> Option<ArrayVec<Gate,
 }
 
 // The plan in a text, of any bytes and any length.
-#[tactic(auto, using(crate::proofs::Texts::no_plan))]
+#[tactic(auto, using(crate::proofs::PlanTexts::no_plan))]
 pub fn read_plan(text: &[u8]) -> Option<Plan>
     ensures { PlanRead text.now result }
 {

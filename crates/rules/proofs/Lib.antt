@@ -11,7 +11,7 @@ pub mod Granting
 pub mod Moving
 pub mod Safety
 pub mod Equality
-pub mod Lines
+pub mod JournalLength
 pub mod Traces
 pub mod Stays
 pub mod Agreements

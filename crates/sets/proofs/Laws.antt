@@ -17,7 +17,7 @@ use lib.Count.{ones, ones_cat, ones-ones}
 use lib.ListN.{length}
 use Rattle.lists.specs.Search.{keep, below}
 use Rattle.lists.proofs.Search.{none_below, below_none, some_below, below_some}
-use Rattle.std.proofs.lemmas.Bool.{and_from, or_from, or_cases, not-true, not-false}
+use Rattle.std.proofs.lemmas.Bool.{and_from, or_cases, not-true, not-false}
 use Rattle.lists.proofs.Tests.{told, lt_or_le, truth, clash, same_test, and_l, and_r, and_no_r}
 use Rattle.sets.specs.Sets.{has, set_of, between, run, is_or_in, insert, is_not_and_in, remove, in_both, shares}
 use Rattle.sets.specs.Sets.{in_first_only, subset}
@@ -107,28 +107,6 @@ no_run f l out = same_members 64 0 (run f l) (pow_pos 64) (run_lt f l) (λ p h. 
 
 -- ---- one member more, one less
 
--- the set with p in it is a set of numbers below 64
-pub insert_lt : (p set : ℕ) → insert p set < 2 ^ 64
-unfolding insert
-insert_lt p set = set_of_lt 64 (is_or_in p set)
-
--- its members are p and those of the set
-pub has-insert : (p set q : ℕ) → p < 64 → set < 2 ^ 64 → has q (insert p set) ≡ eqb q p || has q set
-unfolding insert
-has-insert p set q l h =
-    closed_set_of 64 (is_or_in p set) q (λ out. or_from _ _ (ne_eqb q p (λ e. omega arith)) (has_high 64 q set h out))
-
--- the set without p is a set of numbers below 64
-pub remove_lt : (p set : ℕ) → remove p set < 2 ^ 64
-unfolding remove
-remove_lt p set = set_of_lt 64 (is_not_and_in p set)
-
--- its members are those of the set but p
-pub has-remove : (p set q : ℕ) → set < 2 ^ 64 → has q (remove p set) ≡ not (eqb q p) && has q set
-unfolding remove
-has-remove p set q h =
-    closed_set_of 64 (is_not_and_in p set) q (λ out. rw (has_high 64 q set h out, and-false))
-
 -- of any set: a number below 64 is a member of the set with p where it is p or was a member, of the set without p where
 -- it isn't p and was one
 pub insert_below : (p set q : ℕ) → q < 64 → has q (insert p set) ≡ (eqb q p || has q set)
@@ -153,11 +131,6 @@ in_remove p set q e =
     (eqb-false q p (search (told, k)), search (told, k))
 
 -- ---- the members of two sets
-
--- they are a set of numbers below 64
-pub union_lt : (a b : ℕ) → union a b < 2 ^ 64
-unfolding union
-union_lt a b = set_of_lt 64 (in_either a b)
 
 -- a number below 64 is a member where one of the two has it
 pub has-union : (a b p : ℕ) → p < 64 → has p (union a b) ≡ (has p a || has p b)

@@ -3,4 +3,4 @@ pub mod Bits
 pub mod Laws
 pub mod Ends
 pub mod Entries
-pub mod Examples
+pub mod SetExamples

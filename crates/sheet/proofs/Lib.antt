@@ -1,6 +1,6 @@
 -- The laws of the sheet that its proofs stand on, and its theorems over a run of the board (Ran).
 pub mod Holding
 pub mod Fitting
-pub mod Lines
+pub mod PageLines
 pub mod Pages
-pub mod Ran
+pub mod RanSheets

@@ -20,7 +20,7 @@ use Rattle.rules.specs.Step.{Kept}
 use Rattle.rules.specs.Sheet.{authority_cells, authority_widths, authority_line, total_cells, total_widths, total_line}
 use Rattle.rules.specs.Sheet.{sheet_lines, page_of, sheet, is_short, SheetPost}
 use Rattle.sheet.proofs.Fitting.{authority_73, total_73}
-use Rattle.sheet.proofs.Lines.{Printed, printed_next}
+use Rattle.sheet.proofs.PageLines.{Printed, printed_next}
 
 -- ---- the live authorities
 

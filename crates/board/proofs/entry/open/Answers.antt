@@ -1,5 +1,5 @@
 -- `board::entry::open` meets its contract. Assumes nothing.
-use Rattle.board.proofs.Opening.{opened_post, refused_post}
+use Rattle.board.proofs.OpeningBoard.{opened_post, refused_post}
 use Rattle.board.proofs.entry.open.Goals as goal
 
 pub returns-in-Some : goal.returns-in-Some

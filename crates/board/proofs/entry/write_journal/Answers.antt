@@ -1,7 +1,7 @@
 -- `board::entry::write_journal` meets its contract: nine numbers in columns of six. Assumes nothing.
 use Rattle.std.proofs.Common.{rules}
 use Rattle.rules.specs.Answer.{answer_no, number_no}
-use Rattle.board.proofs.Writing.{journal_written}
+use Rattle.board.proofs.JournalWritten.{journal_written}
 use Rattle.board.proofs.entry.write_journal.Goals as goal
 
 pub returns : goal.returns

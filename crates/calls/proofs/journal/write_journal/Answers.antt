@@ -1,7 +1,7 @@
 -- `calls::journal::write_journal` meets its contract: a line that holds a call is 43 bytes long, and its first 42 with
 -- the numbers written behind them are the journal line. Assumes nothing.
 use Rattle.std.proofs.Common.{◌≤◌, arith, rules, length, length-take}
-use Rattle.calls.proofs.Texts.{call_length}
+use Rattle.calls.proofs.CallLines.{call_length}
 use Rattle.calls.proofs.Journals.{journal_filled}
 use Rattle.calls.proofs.journal.write_journal.Goals as goal
 

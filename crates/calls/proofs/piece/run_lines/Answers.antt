@@ -1,7 +1,7 @@
 -- `calls::piece::run_lines` meets its contract. The loop's invariant: the register is one that calls return, and the
 -- run of the whole text is the lines written so far with the run of what is left behind them. Assumes nothing.
 use Rattle.std.proofs.Common.{sym, ◌∙◌, ◌*◌, arith, length-drop, ap, length}
-use Rattle.columns.proofs.Lines.{next_line}
+use Rattle.columns.proofs.Chunks.{next_line}
 use Rattle.calls.proofs.Running.{so_far_call, done_over, done_malformed}
 use Rattle.calls.proofs.piece.run_lines.Goals as goal
 

@@ -1,6 +1,6 @@
 -- What a read gave stands behind what the reads before it gave.
 use Rattle.std.proofs.Common.{rules}
-use Rattle.folder.proofs.Filling.{filled-more}
+use Rattle.folder.proofs.PartRead.{filled-more}
 use Rattle.folder.proofs.input.fill.Goals as goal
 
 pub loop-bytes-preserved : goal.loop-bytes-preserved

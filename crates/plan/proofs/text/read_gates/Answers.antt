@@ -1,8 +1,8 @@
 -- `plan::text::read_gates` meets its contract. The loop's invariant, `SoFar`: the whole is the gates of the lines read,
 -- and then what the lines left hold. Assumes nothing.
 use Rattle.std.proofs.Common.{arith, rules, ap, length, length-drop, ◌*◌, ◌∙◌}
-use Rattle.columns.proofs.Lines.{next_line}
-use Rattle.plan.proofs.Texts.{none_yet, all_read, not_gate, one_more}
+use Rattle.columns.proofs.Chunks.{next_line}
+use Rattle.plan.proofs.PlanTexts.{none_yet, all_read, not_gate, one_more}
 use Rattle.plan.proofs.text.read_gates.Goals as goal
 
 pub loop-line-init : goal.loop-line-init

@@ -1,7 +1,7 @@
 use Rattle.std.proofs.Common.{◌≡◌, ◌-◌, ◌*◌, length, drop}
 use Rattle.std.specs.Iterator.Adapters.{take_source, take_count}
 use Rattle.std.specs.Slice.Iter.{chunks_exact_rest, chunks_exact_size}
-use Rattle.plan.proofs.Texts.{SoFar}
+use Rattle.plan.proofs.PlanTexts.{SoFar}
 use Rattle.plan.proofs.text.read_gates.Given as goal
 
 abbrev pub invariant-loop-line : goal.invariant-loop-line

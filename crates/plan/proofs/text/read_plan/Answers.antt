@@ -1,6 +1,6 @@
 -- `plan::text::read_plan` meets its contract behind a head, on each of its ways out. Assumes nothing.
 use Rattle.std.proofs.Common.{refl}
-use Rattle.plan.proofs.Texts.{plan_not_long, gates_asked, plan_is_read}
+use Rattle.plan.proofs.PlanTexts.{plan_not_long, gates_asked, plan_is_read}
 use Rattle.plan.proofs.text.read_plan.Goals as goal
 
 pub returns-then-gate_lines-count : goal.returns-then-gate_lines-count

@@ -3,7 +3,7 @@
 use Rattle.std.proofs.Common.{refl, sym, ◌∙◌, ◌+◌, ◌*◌, ◌≤◌, arith, length, rules}
 use Rattle.columns.proofs.Writing.{part_length}
 use Rattle.sheet.proofs.Fitting.{authority_73, now_small}
-use Rattle.sheet.proofs.Lines.{printed_none}
+use Rattle.sheet.proofs.PageLines.{printed_none}
 use Rattle.sheet.proofs.Pages.{few, starts_at, listed_room, listed_next}
 use Rattle.sheet.proofs.page.write_authorities.Goals as goal
 use Rattle.sheet.proofs.page.write_authorities.Goals.{In-loop-i}

@@ -10,7 +10,7 @@ use Rattle.rules.specs.Step.{Once, Starts, Kept, OpenPost}
 use Rattle.rules.proofs.Once.{once_opened}
 use Rattle.rules.proofs.Terms.{starts_opened}
 use Rattle.plan.specs.declared.text.Plan as Read
-use Rattle.plan.specs.Lines.{PlanRead}
+use Rattle.plan.specs.PlanLines.{PlanRead}
 
 -- what holds of a register that stands for a freshly opened board
 kept_fresh : (r : Register) (portions : ℕ) (gates : List Gate) → board_of r ≡ opened portions gates → portions ≤ 64 → length gates ≤ 64 → Kept r

@@ -9,7 +9,7 @@ use Rattle.columns.specs.Line.{Written, writable, with_line}
 use Rattle.columns.proofs.Writing.{total, writable-room}
 use Rattle.rules.specs.declared.Seven.{Seven}
 use Rattle.rules.specs.Journal.{journal_widths, journal_line}
-use Rattle.rules.proofs.Lines.{nine, Small, nine_fit, line_55}
+use Rattle.rules.proofs.JournalLength.{nine, Small, nine_fit, line_55}
 
 -- a buffer of 55 bytes or more gets the line, and its later bytes stay
 pub journal_written : (s : Seven) (answer number : ℕ) (buffer buffer' : List ℕ) (r : Bool) → Each Small (nine s answer number) → 55 ≤ length buffer

@@ -21,7 +21,7 @@ use Rattle.rules.specs.declared.Gate.{Gate}
 use Rattle.rules.specs.Plan.{plan_widths, plan_line, plan_number, is_head, is_gate, gate_on, are_gates, gates_on}
 use Rattle.rules.specs.Plan.{is_plan, open_board}
 use Rattle.plan.specs.declared.text.Plan.{Plan}
-use Rattle.plan.specs.Lines.{head_in, gate_in, PlanRead}
+use Rattle.plan.specs.PlanLines.{head_in, gate_in, PlanRead}
 
 -- ---- the numbers on a line
 pub numbers_on : (line : List ℕ) → length line ≡ 19

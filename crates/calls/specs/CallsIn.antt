@@ -1,7 +1,7 @@
 -- A text of calls, line by line (01, "The journal"). Assumes nothing.
 use Rattle.std.specs.Prelude.{ℕ, zero, suc, List, [], ◌∷◌, take, drop, Option, Some, None}
 use Rattle.rules.specs.declared.Seven.{Seven}
-use Rattle.calls.specs.Line.{line_in}
+use Rattle.calls.specs.CallLine.{line_in}
 
 -- the calls on the lines of a text, at most n: "it stops before a malformed call line"; a last line cut short is one
 abbrev pub unless_malformed : Option Seven → List Seven → List Seven
