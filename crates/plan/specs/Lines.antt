@@ -13,7 +13,8 @@ head_in text = cond (is_head text) (Some (plan_number 0 text, plan_number 1 text
 unfoldable pub gate_in : ℕ → List ℕ → Option Gate
 gate_in portions text = cond (is_gate portions text) (Some (gate_on text)) None
 
--- the whole result of reading a plan: there is one just where the text is a plan, and then it is the board that the text opens
+-- the whole result of reading a plan: there is one just where the text is a plan, and then it is the board that the
+-- text opens
 pub record PlanRead (text : List ℕ) (r : Option Plan) : Type 0 where
   pub some : is_some r ≡ is_plan text
   pub board : IfSome r (λ p. opened p.portions p.gates.items ≡ open_board text)
