@@ -2,22 +2,17 @@
 use Prim.Native.Nat.{ℕ, zero, suc, ◌+◌}
 use native.Mathlib.Omega.{arith}
 use mathlib.Core.Path.{◌≡◌, refl, sym}
-use mathlib.Core.Bool.{Bool, true, false, cond}
+use mathlib.Core.Bool.{true}
 use mathlib.Core.List.{List, [], ◌∷◌}
 use lib.ListN.{length, drop, get_or, replicate, drop_of_length-le}
 use lib.Seq.{drop-cons}
-use lib.Dec.{leb}
-use borrow.Author.Tests.{leb-true}
-use Rattle.std.proofs.lemmas.Bool.{and_from}
-use Rattle.lists.proofs.Tests.{and_l, and_r}
-use Rattle.columns.specs.Column.{fits}
 use Rattle.columns.specs.Line.{all_fit}
 use Rattle.columns.specs.Reading.{row_of}
 use Rattle.columns.proofs.Writing.{fits_below, total, line-length}
 use Rattle.columns.proofs.Rows.{at_most, IsLine, line_read}
 use Rattle.rules.specs.declared.Seven.{Seven}
-use Rattle.std.specs.Prelude.{Some, None}
-use Rattle.calls.specs.CallLine.{call_widths, seven_of, line_in}
+use Rattle.std.specs.Prelude.{Some}
+use Rattle.calls.specs.Line.{call_widths, seven_of, line_in}
 
 -- ---- a line that holds a call
 
@@ -43,26 +38,18 @@ seven_numbers ns e = gets_all 7 0 ns (sym e)
 -- a line that holds a call is the line of the call's numbers, none above 65535
 pub call_line : (s : List ℕ) (c : Seven) → line_in s ≡ Some c → IsLine 65535 call_widths s (numbers_of c)
 unfolding line_in
-call_line s c e = go (row_of 65535 call_widths s).whole refl e
-  where
-    ns : List ℕ
-    ns = (row_of 65535 call_widths s).numbers
-
-    go : (t : Bool) → (row_of 65535 call_widths s).whole ≡ t → cond t (Some (seven_of ns)) None ≡ Some c → IsLine 65535 call_widths s (numbers_of c)
-    go true p q =
-        let r = line_read 65535 call_widths s p in
-        let same : seven_of ns ≡ c = cc in
-        rw (← same, seven_numbers ns r.count) r
-    go false p q = let z : ◌≡◌ {A = ℕ} 0 1 = cc in absurd (omega arith)
+call_line s c e =
+    let ns = (row_of 65535 call_widths s).numbers in
+    let whole : (row_of 65535 call_widths s).whole ≡ true = grind (arith, e) in
+    let same : seven_of ns ≡ c = grind (arith, e) in
+    let r = line_read 65535 call_widths s whole in
+    rw (← same, seven_numbers ns r.count) r
 
 -- numbers of 16 bits fit columns of six
 pub six_fit : (ns : List ℕ) → at_most 65535 ns ≡ true → all_fit (replicate (length ns) 6) ns ≡ true
 unfolding at_most all_fit
 six_fit [] h = refl
-six_fit (n ∷ ns) h =
-    let small = leb-true n 65535 (and_l (leb n 65535) (at_most 65535 ns) h) in
-    and_from (fits 6 n) (all_fit (replicate (length ns) 6) ns) (fits_below 6 n (omega arith) (omega arith))
-    (six_fit ns (and_r (leb n 65535) (at_most 65535 ns) h))
+six_fit (n ∷ ns) h = grind (arith, fits_below 6 n, six_fit ns)
 
 -- a line that holds a call is 43 bytes long
 pub call_length : (s : List ℕ) (c : Seven) → line_in s ≡ Some c → length s ≡ 43
