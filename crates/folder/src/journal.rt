@@ -1,6 +1,7 @@
 // The calls of a working folder: the board opened from the file `plan`, and the calls of the file `calls` made on it in
 // pieces of whole lines.
-ghost use Rattle.std.specs.Prelude.{◌≡◌, ◌↔◌, ◌*◌, ◌^◌, ◌<◌, ◌≤◌, length, IsOk};
+ghost use Rattle.std.specs.Prelude.{◌≡◌, ◌↔◌, ◌+◌, ◌*◌, ◌^◌, ◌<◌, ◌≤◌, length, IsOk, IsOkUnless};
+ghost use Rattle.folder.specs.declared.failure.Failure.TheVariants.{Malformed};
 
 use crate::failure::{Failure, end_run};
 use crate::input::{fill, open, read_file};
@@ -30,11 +31,12 @@ pub const PLAN_SIZE: usize = 65 * 19 + 1;
 // reached.
 const MOST_PIECES: u64 = 1 << 50;
 
-// Fails at a malformed line: where a piece has more than the lines whose calls were made. `piece` is the number of whole
-// pieces before it.
+// Fails at a malformed line, the one behind those whose calls were made, where a piece has more than these. `piece` is
+// the number of whole pieces before it.
 fn check_lines(piece: u64, lines: usize, bytes: usize) -> Result<(), Failure<'static>>
     requires { (piece < 2 ^ 50) × (lines ≤ 8192) }
-    ensures { IsOk result ↔ 43 * lines ≡ bytes }
+    ensures whole { IsOk result ↔ 43 * lines ≡ bytes }
+    ensures line { IsOkUnless result (Malformed (8192 * piece + lines + 1)) }
 {
     if CALL_SIZE * lines == bytes {
         return Ok(());
