@@ -23,7 +23,7 @@ fn read_line(line: &[u8]) -> Option<[u16; 3]>
 }
 
 // P and G off line one, which is P, G, 0: P is 1 to 64, G at most 64.
-#[tactic(auto, using(crate::proofs::Texts::numbers_on), unfolding(crate::specs::Lines::head_in, rules::specs::Plan::is_head, rules::specs::Plan::plan_number))]
+#[tactic(auto, using(crate::proofs::PlanTexts::numbers_on), unfolding(crate::specs::PlanLines::head_in, rules::specs::Plan::is_head, rules::specs::Plan::plan_number))]
 fn read_head(line: &[u8]) -> Option<(u16, u16)>
     requires { length line.now ≡ 19 }
     ensures { result ≡ head_in line.now }
@@ -65,7 +65,7 @@ fn read_gate(line: &[u8], portions: u16) -> Option<Gate>
 }
 
 // The gates on the lines of a text of that many lines.
-#[tactic(auto, using(crate::proofs::Texts::none_yet))]
+#[tactic(auto, using(crate::proofs::PlanTexts::none_yet))]
 fn read_gates(text: &[u8], portions: u16, count: usize) -> Option<ArrayVec<Gate, 64>>
     requires { (length text.now ≡ 19 * count) × (count ≤ 64) }
     ensures some { is_some result ≡ are_gates portions count text.now }
@@ -79,7 +79,7 @@ fn read_gates(text: &[u8], portions: u16, count: usize) -> Option<ArrayVec<Gate,
 }
 
 // The plan in a text, of any bytes and any length.
-#[tactic(auto, using(crate::proofs::Texts::plan_read))]
+#[tactic(auto, using(crate::proofs::PlanTexts::plan_read))]
 pub fn read_plan(text: &[u8]) -> Option<Plan>
     ensures { PlanRead text.now result }
 {
