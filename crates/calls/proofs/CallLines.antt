@@ -12,7 +12,7 @@ use Rattle.columns.proofs.Writing.{fits_below, total, line-length}
 use Rattle.columns.proofs.Rows.{at_most, IsLine, line_read}
 use Rattle.rules.specs.declared.Seven.{Seven}
 use Rattle.std.specs.Prelude.{Some}
-use Rattle.calls.specs.Line.{call_widths, seven_of, line_in}
+use Rattle.calls.specs.CallLine.{call_widths, seven_of, line_in}
 
 -- ---- a line that holds a call
 

@@ -16,7 +16,7 @@ use Rattle.columns.proofs.Rows.{numbers_asked}
 use Rattle.rules.specs.declared.Gate.{Gate}
 use Rattle.rules.specs.Plan.{plan_widths, plan_line, plan_number, is_head, is_plan, open_board}
 use Rattle.rules.specs.Plan.{is_gate, gate_on, are_gates, gates_on}
-use Rattle.plan.specs.Lines.{head_in, gate_in}
+use Rattle.plan.specs.PlanLines.{head_in, gate_in}
 use Rattle.rules.specs.Board.{opened}
 
 -- ---- the numbers on a line

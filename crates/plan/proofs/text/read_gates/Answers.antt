@@ -1,8 +1,8 @@
 -- `plan::text::read_gates` meets its contract. The loop's invariant, `SoFar`: the whole is the gates of the lines
 -- read, and then what the lines left hold. Assumes nothing.
 use Rattle.std.proofs.Common.{arith, ap, length, length-drop, ◌*◌, ◌∙◌}
-use Rattle.columns.proofs.Lines.{next_line}
-use Rattle.plan.proofs.Texts.{all_read, not_gate, one_more}
+use Rattle.columns.proofs.Chunks.{next_line}
+use Rattle.plan.proofs.PlanTexts.{all_read, not_gate, one_more}
 use Rattle.plan.proofs.text.read_gates.Goals as goal
 
 pub returns-in_err-read_gate-clause-some : goal.returns-in_err-read_gate-clause-some

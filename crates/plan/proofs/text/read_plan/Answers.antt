@@ -1,6 +1,6 @@
 -- `plan::text::read_plan` meets its contract where it reads a plan. Assumes nothing.
 use Rattle.std.proofs.Common.{arith}
-use Rattle.plan.proofs.Texts.{plan_read}
+use Rattle.plan.proofs.PlanTexts.{plan_read}
 use Rattle.plan.proofs.text.read_plan.Goals as goal
 
 pub returns : goal.returns
