@@ -10,10 +10,11 @@ ghost use Rattle.rules.specs.Answer.{answer_no};
 ghost use Rattle.answers.specs.Held.{held_by, not_at_stage};
 
 use crate::agreements::{answer_agree, answer_join};
+use crate::bookings::{answer_book_in, answer_book_out};
 use crate::conditions::{is_full, is_outside_term, is_unprotected};
 use crate::terms::answer_term;
 use authorities::find;
-use gates::{answer_book_in, answer_book_out, can_be_blocked};
+use gates::can_be_blocked;
 use movements::{answer_move, answer_passed};
 use rules::{Authority, AuthorityNo, Call, GateNo, Kind, Refusal, Register, Seven};
 

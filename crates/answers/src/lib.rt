@@ -3,6 +3,7 @@
 
 mod agreements;
 mod answer;
+mod bookings;
 mod conditions;
 mod terms;
 

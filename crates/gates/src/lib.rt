@@ -8,7 +8,7 @@ ghost use Rattle.gates.specs.Needs.{needed_of};
 mod bookings;
 
 use arrayvec::ArrayVec;
-pub use bookings::{answer_book_in, answer_book_out, can_be_blocked};
+pub use bookings::{booking_at, can_be_blocked};
 use rules::{Gate, GateNo};
 
 // The gate with that number; past those of the plan stands none, a gate from 0 to 0.
