@@ -54,7 +54,8 @@ module _ (portions count : ℕ) (text : List ℕ) where
 
   module _ (i : ℕ) (gates : List Gate) (so_far : SoFar i gates) where
     -- no line is left
-    pub all_read : (i < count → length text < 19 * i + 19) → (true ≡ are_gates portions count text) × (gates ≡ gates_on count text)
+    pub all_read : (i < count → length text < 19 * i + 19)
+        → (true ≡ are_gates portions count text) × (gates ≡ gates_on count text)
     unfolding are_gates gates_on
     all_read short = elim (lt_or_le i count) [
       | inl l ↦ absurd (omega (arith, short l, so_far.long))
@@ -118,7 +119,8 @@ pub plan_no_head : (text line : List ℕ) → line ≡ take 19 text → None ≡
 unfolding head_in is_plan
 plan_no_head text line of e = go (is_head text) refl (rw (of, first_head text) at e)
   where
-    go : (t : Bool) → is_head text ≡ t → None ≡ cond t (both (plan_number 0 text) (plan_number 1 text)) None → false ≡ is_plan text
+    go : (t : Bool) → is_head text ≡ t → None ≡ cond t (both (plan_number 0 text) (plan_number 1 text)) None
+        → false ≡ is_plan text
     go true h q = cc
     go false h q = rw h
 
@@ -131,14 +133,16 @@ plan_head : (text : List ℕ) (p g : ℕ) → both p g ≡ head_in text → Head
 unfolding head_in
 plan_head text p g e = go (is_head text) refl e
   where
-    go : (t : Bool) → is_head text ≡ t → both p g ≡ cond t (both (plan_number 0 text) (plan_number 1 text)) None → Head text p g
+    go : (t : Bool) → is_head text ≡ t → both p g ≡ cond t (both (plan_number 0 text) (plan_number 1 text)) None
+        → Head text p g
     go true h q =
         let same : ◌≡◌ {A = ℕ × ℕ} (plan_number 0 text, plan_number 1 text) (p, g) = cc in
         record { head = h; portions = ap (λ (x : ℕ × ℕ). x.0) same; gates = ap (λ (x : ℕ × ℕ). x.1) same }
     go false h q = cc
 
 -- the text split into its first line, which is a head, and the lines of gates
-module _ (text line gates : List ℕ) (p n g : ℕ) (cut : IsSplitAt text 19 line gates) (e : both p n ≡ head_in line) (count : g ≡ n) where
+module _ (text line gates : List ℕ) (p n g : ℕ) (cut : IsSplitAt text 19 line gates) (e : both p n ≡ head_in line)
+    (count : g ≡ n) where
   known : Head text p g
   known = plan_head text p g (rw (count, ← first_head text, ← cut.1) e)
 
@@ -166,7 +170,8 @@ module _ (text line gates : List ℕ) (p n g : ℕ) (cut : IsSplitAt text 19 lin
     pub plan_no_gates : false ≡ are_gates p g gates → false ≡ is_plan text
     plan_no_gates h = plan_is false h
 
-    pub plan_is_read : (q : Plan) → q.portions ≡ p → true ≡ are_gates p g gates → q.gates.items ≡ gates_on g gates → PlanRead text (Some q)
+    pub plan_is_read : (q : Plan) → q.portions ≡ p → true ≡ are_gates p g gates → q.gates.items ≡ gates_on g gates
+        → PlanRead text (Some q)
     unfolding open_board is_head
     plan_is_read q of h same =
         let all = plan_is true h in

@@ -37,10 +37,24 @@ pub returns-clause-some : goal.returns-clause-some
 returns-clause-some c =
     let i = c.loop-line.invariant in
     let room = i.3 in
-    (all_read _ _ _ _ _ i.0 (λ h. omega (arith, (c.in-None.ensures.steps (omega arith)).1.0, i.2, ap length i.1, length-drop (19 * length c.loop-line.gates.items) c.args.text.now))).0
+    (all_read _ _ _ _ _ i.0
+    (λ h. omega (
+      arith,
+      (c.in-None.ensures.steps (omega arith)).1.0,
+      i.2,
+      ap length i.1,
+      length-drop (19 * length c.loop-line.gates.items) c.args.text.now,
+    ))).0
 
 pub returns-clause-gates : goal.returns-clause-gates
 returns-clause-gates c =
     let i = c.loop-line.invariant in
     let room = i.3 in
-    (all_read _ _ _ _ _ i.0 (λ h. omega (arith, (c.in-None.ensures.steps (omega arith)).1.0, i.2, ap length i.1, length-drop (19 * length c.loop-line.gates.items) c.args.text.now))).1
+    (all_read _ _ _ _ _ i.0
+    (λ h. omega (
+      arith,
+      (c.in-None.ensures.steps (omega arith)).1.0,
+      i.2,
+      ap length i.1,
+      length-drop (19 * length c.loop-line.gates.items) c.args.text.now,
+    ))).1
