@@ -48,7 +48,8 @@ call_line s c e = go (row_of 65535 call_widths s).whole refl e
     ns : List ℕ
     ns = (row_of 65535 call_widths s).numbers
 
-    go : (t : Bool) → (row_of 65535 call_widths s).whole ≡ t → cond t (Some (seven_of ns)) None ≡ Some c → IsLine 65535 call_widths s (numbers_of c)
+    go : (t : Bool) → (row_of 65535 call_widths s).whole ≡ t → cond t (Some (seven_of ns)) None ≡ Some c
+        → IsLine 65535 call_widths s (numbers_of c)
     go true p q =
         let r = line_read 65535 call_widths s p in
         let same : seven_of ns ≡ c = cc in
