@@ -36,7 +36,8 @@ pub ruleset refusals = (holds, fails, none, not_from_false, not_from_true, of_ca
 -- ---- the authority with a number, looked for
 
 -- a call that names two is answered 5 where either is not live, else by its other refusals, of the two found
-pub both_live : (b : Board) (n m : ℕ) (rs : List Refusal) {f : Option Authority} (looked : f ≡ find (is_authority n) b.authorities)
+pub both_live : (b : Board) (n m : ℕ) (rs : List Refusal) {f : Option Authority}
+    (looked : f ≡ find (is_authority n) b.authorities)
     {a : Authority} (is : f ≡ Some a) {g : Option Authority} (looked_too : g ≡ find (is_authority m) b.authorities)
     {c : Authority} {v : ℕ} → g ≡ Some c → (authority b n ≡ a → authority b m ≡ c → v ≡ lowest rs)
     → v ≡ lowest (5 when (not_live b n || not_live b m) ∷ rs)

@@ -48,8 +48,10 @@ called_short r s buffer k h =
       kept = k;
     }
 
-pub called_long : (r : Register) (s : Seven) (buffer buffer' : List ℕ) (out : Called) → 55 ≤ length buffer → TakePost r s out.register out.answer
-    → buffer' ≡ journal_line s (answer_no out.answer) (number_no out.answer) ++ drop 55 buffer → CallPost r s buffer out buffer'
+pub called_long : (r : Register) (s : Seven) (buffer buffer' : List ℕ) (out : Called) → 55 ≤ length buffer
+    → TakePost r s out.register out.answer
+    → buffer' ≡ journal_line s (answer_no out.answer) (number_no out.answer) ++ drop 55 buffer
+    → CallPost r s buffer out buffer'
 called_long r s buffer buffer' out h p e = record {
   board = p.board ∙ sym (room_after (board_of r) s (length buffer) h);
   answered = p.answered ∙ sym (room-answer (board_of r) s (length buffer) h);

@@ -38,10 +38,12 @@ use Rattle.board.specs.Taking.{with_room, Allowed, TakePost}
 -- the call that the seven numbers are, with its answer where the buffer is long enough
 pub data Decoded (b : Board) (s : Seven) : Result Call Refused.Refusal → Type 0 where
   faulty : (refusal : Refused.Refusal) → refusal_no refusal ≡ with_room b s → Decoded b s (Err refusal)
-  sound : (c : Call) → named s ≡ Some c → with_room b s ≡ lowest (4 when early b s ∷ own b s (Some c)) → Decoded b s (Ok c)
+  sound : (c : Call) → named s ≡ Some c → with_room b s ≡ lowest (4 when early b s ∷ own b s (Some c))
+      → Decoded b s (Ok c)
 
 -- a call whose number and fields are in their ranges
-named_cases : (b : Board) (s : Seven) (n : Option Call) → named s ≡ n → Ranges b n → with_room b s ≡ lowest (4 when early b s ∷ own b s n)
+named_cases : (b : Board) (s : Seven) (n : Option Call) → named s ≡ n → Ranges b n
+    → with_room b s ≡ lowest (4 when early b s ∷ own b s n)
     → Decoded b s (ok_or n NoSuchCall)
 named_cases b s None e k l = absurd k
 named_cases b s (Some c) e k l = sound c e l
@@ -53,29 +55,34 @@ decoded_cases b s false y e f = faulty NoSuchCall (rw e)
 decoded_cases b s true false e f = faulty Field (rw (e, f))
 decoded_cases b s true true e f = named_cases b s (named s) refl (in_ranges_lem b s e f) (rw (e, f))
 
-pub is_decoded : (r : Register) (s : Seven) {n : ℕ} {d : Result Call Refused.Refusal} → d ≡ decoded r.portions n s → n ≡ length r.gates.items
+pub is_decoded : (r : Register) (s : Seven) {n : ℕ} {d : Result Call Refused.Refusal} → d ≡ decoded r.portions n s
+    → n ≡ length r.gates.items
     → Decoded (board_of r) s d
 unfolding decoded board_of
 is_decoded r s e l =
     let b = board_of r in
     rw (e, l) (decoded_cases b s (is_call s.call) (in_ranges b.portions (length b.gates) s) refl refl)
 
-pub fault_answer : {b : Board} {s : Seven} {r : Result Call Refused.Refusal} {refusal : Refused.Refusal} → Decoded b s r → r ≡ Err refusal
+pub fault_answer : {b : Board} {s : Seven} {r : Result Call Refused.Refusal} {refusal : Refused.Refusal} → Decoded b s r
+    → r ≡ Err refusal
     → refusal_no refusal ≡ with_room b s
 fault_answer (faulty refusal e) is = ap (λ (x : Refused.Refusal). refusal_no x) (cc) ∙ e
 fault_answer (sound c n e) is = cc
 
-pub call_named : {b : Board} {s : Seven} {r : Result Call Refused.Refusal} {c : Call} → Decoded b s r → r ≡ Ok c → named s ≡ Some c
+pub call_named : {b : Board} {s : Seven} {r : Result Call Refused.Refusal} {c : Call} → Decoded b s r → r ≡ Ok c
+    → named s ≡ Some c
 call_named (faulty refusal e) is = cc
 call_named (sound c n e) is = cc
 
-pub early_answer : {b : Board} {s : Seven} {r : Result Call Refused.Refusal} {c : Call} → Decoded b s r → r ≡ Ok c → early b s ≡ true
+pub early_answer : {b : Board} {s : Seven} {r : Result Call Refused.Refusal} {c : Call} → Decoded b s r → r ≡ Ok c
+    → early b s ≡ true
     → 4 ≡ with_room b s
 unfolding lowest
 early_answer (faulty refusal e) is l = cc
 early_answer (sound c n e) is l = sym (e ∙ rw l)
 
-pub own_answer : {b : Board} {s : Seven} {r : Result Call Refused.Refusal} {c : Call} → Decoded b s r → r ≡ Ok c → early b s ≡ false
+pub own_answer : {b : Board} {s : Seven} {r : Result Call Refused.Refusal} {c : Call} → Decoded b s r → r ≡ Ok c
+    → early b s ≡ false
     → lowest (own b s (Some c)) ≡ with_room b s
 unfolding lowest
 own_answer (faulty refusal e) is l = cc
@@ -84,11 +91,14 @@ own_answer {b} {s} {c = c} (sound d n e) is l =
     subst (λ (x : Call). lowest (own b s (Some x)) ≡ with_room b s) same (sym (e ∙ rw l))
 
 -- a refusal that `?` gives back
-pub allowed_none : {b : Board} {s : Seven} (e : Refused.Refusal) (r : Result Call Refused.Refusal) → refusal_no e ≡ with_room b s
+pub allowed_none : {b : Board} {s : Seven} (e : Refused.Refusal) (r : Result Call Refused.Refusal)
+    → refusal_no e ≡ with_room b s
     → IsErrAnd r (λ x. x ≡ e) → Allowed b s r
-allowed_none e r k gives = let p = err_from_is_err_and r gives in record { answered = rw (p.1, p.2) k; named = rw p.1 tt; free = rw p.1 tt }
+allowed_none e r k gives =
+    let p = err_from_is_err_and r gives in record { answered = rw (p.1, p.2) k; named = rw p.1 tt; free = rw p.1 tt }
 
-pub allowed_one : {b : Board} {s : Seven} {d : Result Call Refused.Refusal} {c : Call} → Decoded b s d → d ≡ Ok c → early b s ≡ false
+pub allowed_one : {b : Board} {s : Seven} {d : Result Call Refused.Refusal} {c : Call} → Decoded b s d → d ≡ Ok c
+    → early b s ≡ false
     → 0 ≡ lowest (own b s (Some c)) → Allowed b s (Ok c)
 allowed_one k is l free = record { answered = free ∙ own_answer k is l; named = call_named k is; free = sym free }
 
@@ -122,7 +132,8 @@ positive Word.ShortPage e = omega arith
 positive Word.Distance e = omega arith
 positive Word.BlockOn e = omega arith
 
-pub taken_refused : (r : Register) (s : Seven) (refusal : Refused.Refusal) → Kept r → refusal_no refusal ≡ with_room (board_of r) s
+pub taken_refused : (r : Register) (s : Seven) (refusal : Refused.Refusal) → Kept r
+    → refusal_no refusal ≡ with_room (board_of r) s
     → TakePost r s r (Err refusal)
 taken_refused r s refusal k e =
     let no : with_room (board_of r) s ≡ 0 → ⊥ = λ z. positive refusal (e ∙ z) in
@@ -134,7 +145,8 @@ taken_refused r s refusal k e =
       kept = k;
     }
 
-pub taken_none : {s : Seven} (e : Refused.Refusal) (r : Register) (given : Result (Option AuthorityNo) Refused.Refusal) → Kept r
+pub taken_none : {s : Seven} (e : Refused.Refusal) (r : Register) (given : Result (Option AuthorityNo) Refused.Refusal)
+    → Kept r
     → refusal_no e ≡ with_room (board_of r) s → IsErrAnd given (λ x. x ≡ e) → TakePost r s r given
 taken_none e r given k h gives = let p = err_from_is_err_and given gives in rw (p.1, p.2) (taken_refused r _ _ k h)
 
@@ -153,7 +165,8 @@ stamped day time r = record {
 }
 
 -- no call changes the portions, or how many bookings there are
-sizes_stay : (b : Board) (c : Call) → ((effect b (Some c)).portions ≡ b.portions) × (length (effect b (Some c)).bookings ≡ length b.bookings)
+sizes_stay : (b : Board) (c : Call)
+    → ((effect b (Some c)).portions ≡ b.portions) × (length (effect b (Some c)).bookings ≡ length b.bookings)
 unfolding effect
 sizes_stay b (Request kind first last officer) = (refl, refl)
 sizes_stay b (Withdraw n officer) = (refl, refl)
@@ -184,14 +197,17 @@ bounds_stay r out c day time k e o = record {
   running = o.running;
 }
 
-taken_accepted : (r : Register) (s : Seven) (c : Call) (out : Register) (given : Result (Option AuthorityNo) Refused.Refusal) → Kept r
-    → named s ≡ Some c → with_room (board_of r) s ≡ 0 → board_of out ≡ effect (board_of r) (Some c) → answer_no given ≡ 0
+taken_accepted : (r : Register) (s : Seven) (c : Call) (out : Register)
+    (given : Result (Option AuthorityNo) Refused.Refusal) → Kept r
+    → named s ≡ Some c → with_room (board_of r) s ≡ 0 → board_of out ≡ effect (board_of r) (Some c)
+    → answer_no given ≡ 0
     → number_no given ≡ cond (eqb s.call 1) (suc (board_of r).last) 0 → is_numbered given ≡ eqb s.call 1
     → TakePost r s (stamped s.day s.time out) given
 unfolding board_of
 taken_accepted r s c out given k is z e accepted number numbered =
     let b : Board = board_of r in
-    let after_is : with_stamp s.day s.time (board_of out) ≡ after b s 55 = accepted_after b s (board_of out) z (e ∙ ap (effect b) (sym is)) in
+    let after_is : with_stamp s.day s.time (board_of out) ≡ after b s 55 =
+    accepted_after b s (board_of out) z (e ∙ ap (effect b) (sym is)) in
     record {
       board = after_is;
       answered = accepted ∙ sym z;
@@ -204,17 +220,20 @@ taken_accepted r s c out given k is z e accepted number numbered =
       };
     }
   where
-    accepted_after : (b : Board) (s : Seven) (d : Board) → with_room b s ≡ 0 → d ≡ effect b (named s) → with_stamp s.day s.time d ≡ after b s 55
+    accepted_after : (b : Board) (s : Seven) (d : Board) → with_room b s ≡ 0 → d ≡ effect b (named s)
+        → with_stamp s.day s.time d ≡ after b s 55
     accepted_after b s d z e = unfold after in rw (eq-eqb (answer b s 55) 0 z, e)
 
-    number_is : (b : Board) (s : Seven) {n : ℕ} → with_room b s ≡ 0 → n ≡ cond (eqb s.call 1) (suc b.last) 0 → n ≡ allotted b s 55
+    number_is : (b : Board) (s : Seven) {n : ℕ} → with_room b s ≡ 0 → n ≡ cond (eqb s.call 1) (suc b.last) 0
+        → n ≡ allotted b s 55
     number_is b s z e = unfold allotted in e ∙ rw (eq-eqb (answer b s 55) 0 z)
 
 -- ---- the number of an accepted call
 
 -- an entry that names another call than REQUEST
 abbrev OtherEntry : Entry → Type 0
-OtherEntry e = (s : Seven) (kind : Kind) (first last officer : ℕ) → e.named s ≡ Some (Request kind first last officer) → ⊥
+OtherEntry e =
+    (s : Seven) (kind : Kind) (first last officer : ℕ) → e.named s ≡ Some (Request kind first last officer) → ⊥
 
 others : Each OtherEntry (drop 1 calls)
 unfolding calls
@@ -257,13 +276,15 @@ others = (
 )
 
 -- a call is a REQUEST where its number is 1, and in no other case
-request_one : (s : Seven) (n : ℕ) (kind : Kind) (first last officer : ℕ) → (entry_of n).named s ≡ Some (Request kind first last officer) → n ≡ 1
+request_one : (s : Seven) (n : ℕ) (kind : Kind) (first last officer : ℕ)
+    → (entry_of n).named s ≡ Some (Request kind first last officer) → n ≡ 1
 unfolding entry_of calls
 request_one s zero kind first last officer e = cc
 request_one s (suc zero) kind first last officer e = refl
 request_one s (suc (suc n)) kind first last officer e =
     ⊎_elim (λ l. absurd (each_at OtherEntry no_entry (drop 1 calls) others n l s kind first last officer e))
-    (λ l. absurd (subst OtherEntry (sym (get_or-eq_default (drop 1 calls) no_entry l)) (λ s k f l o e. cc) s kind first last officer e))
+    (λ l. absurd (subst OtherEntry (sym (get_or-eq_default (drop 1 calls) no_entry l))
+    (λ s k f l o e. cc) s kind first last officer e))
     (lt_or_le n 16)
 
 one_request : (s : Seven) → s.call ≡ 1 → named s ≡ Some (Request (kind_of s.a) s.b s.c s.d)
@@ -277,10 +298,12 @@ pub taken_request : (r : Register) (s : Seven) (kind : Kind) (first last officer
 unfolding board_of named effect
 taken_request r s kind first last officer out k is z e =
     let one : s.call ≡ 1 = request_one s s.call kind first last officer is in
-    taken_accepted r s (Request kind first last officer) out _ k is z e refl (rw (eq-eqb s.call 1 one) (ap (λ (b : Board). b.last) e))
+    taken_accepted r s (Request kind first last officer) out _ k is z e refl
+    (rw (eq-eqb s.call 1 one) (ap (λ (b : Board). b.last) e))
     (sym (eq-eqb s.call 1 one))
 
-pub taken_other : (r : Register) (s : Seven) (c : Call) (out : Register) → Kept r → named s ≡ Some c → with_room (board_of r) s ≡ 0
+pub taken_other : (r : Register) (s : Seven) (c : Call) (out : Register) → Kept r → named s ≡ Some c
+    → with_room (board_of r) s ≡ 0
     → board_of out ≡ effect (board_of r) (Some c)
     → ((kind : Kind) (first last officer : ℕ) → c ≡ Request kind first last officer → ⊥)
     → TakePost r s (stamped s.day s.time out) (Ok None)

@@ -13,7 +13,8 @@ use Rattle.plan.specs.declared.text.Plan as Read
 use Rattle.plan.specs.PlanLines.{PlanRead}
 
 -- what holds of a register that stands for a freshly opened board
-kept_fresh : (r : Register) (portions : ℕ) (gates : List Gate) → board_of r ≡ opened portions gates → portions ≤ 64 → length gates ≤ 64 → Kept r
+kept_fresh : (r : Register) (portions : ℕ) (gates : List Gate) → board_of r ≡ opened portions gates → portions ≤ 64
+    → length gates ≤ 64 → Kept r
 unfolding board_of opened
 kept_fresh r portions gates e h l = record {
   bounds = record {
@@ -27,7 +28,8 @@ kept_fresh r portions gates e h l = record {
   starts = subst Starts (sym e) (starts_opened portions gates);
 }
 
-pub opened_post : (text : List ℕ) (p : Read.Plan) (r : Register) → PlanRead text (Some p) → board_of r ≡ opened p.portions p.gates.items
+pub opened_post : (text : List ℕ) (p : Read.Plan) (r : Register) → PlanRead text (Some p)
+    → board_of r ≡ opened p.portions p.gates.items
     → OpenPost text (record { register = r; answer = Ok tt })
 unfolding open_answer
 opened_post text p r h e = record {

@@ -19,7 +19,8 @@ use Rattle.calls.specs.CallLine.{call_widths, line_in}
 use Rattle.calls.proofs.CallLines.{numbers_of, call_line, six_fit}
 
 -- a line without its line feed, with another line behind it, is one line
-line_append : (ws vs ns ms : List ℕ) → all_fit ws ns ≡ true → take (total ws) (line ws ns) ++ line vs ms ≡ line (ws ++ vs) (ns ++ ms)
+line_append : (ws vs ns ms : List ℕ) → all_fit ws ns ≡ true
+    → take (total ws) (line ws ns) ++ line vs ms ≡ line (ws ++ vs) (ns ++ ms)
 unfolding line all_fit total
 line_append [] vs [] ms e = refl
 line_append [] vs (n ∷ ns) ms e = absurd (false≢true e)
@@ -28,7 +29,11 @@ line_append (w ∷ ws) vs (n ∷ ns) ms e =
     let wide = column-length w n (and_l (fits w n) (all_fit ws ns) e) in
     let front : take (w + total ws) (column w n ++ line ws ns) ≡ column w n ++ take (total ws) (line ws ns) =
     rw wide at (take-append-add (column w n) (line ws ns) (total ws)) in
-    rw (front, append_assoc (column w n) (take (total ws) (line ws ns)) (line vs ms), line_append ws vs ns ms (and_r (fits w n) (all_fit ws ns) e))
+    rw (
+      front,
+      append_assoc (column w n) (take (total ws) (line ws ns)) (line vs ms),
+      line_append ws vs ns ms (and_r (fits w n) (all_fit ws ns) e),
+    )
 
 -- the line's first 42 bytes, with the answer and the number behind them, are the journal line
 pub journal_line_lem : (s : List ℕ) (c : Seven) (answer number : ℕ) → line_in s ≡ Some c
@@ -36,16 +41,20 @@ pub journal_line_lem : (s : List ℕ) (c : Seven) (answer number : ℕ) → line
 unfolding journal_line total
 journal_line_lem s c answer number e =
     let l = call_line s c e in
-    rw l.text (line_append call_widths (6 ∷ 6 ∷ []) (numbers_of c) (answer ∷ number ∷ []) (six_fit (numbers_of c) l.small))
+    rw l.text (line_append call_widths (6 ∷ 6 ∷ []) (numbers_of c) (answer ∷ number ∷ [])
+    (six_fit (numbers_of c) l.small))
 
 -- the numbers copied to the front of a buffer of 55 bytes, and the answer and the number written behind them
-pub journal_filled : (s front before after : List ℕ) (c : Seven) (answer number : ℕ) (r : Bool) → Written (6 ∷ 6 ∷ []) (answer ∷ number ∷ []) before after r → line_in s ≡ Some c → front ≡ take 42 s
+pub journal_filled : (s front before after : List ℕ) (c : Seven) (answer number : ℕ) (r : Bool)
+    → Written (6 ∷ 6 ∷ []) (answer ∷ number ∷ []) before after r → line_in s ≡ Some c → front ≡ take 42 s
     → length before ≡ 13 → answer < 65536 → number < 65536 → front ++ after ≡ journal_line c answer number
 unfolding at_most total with_line
 journal_filled s front before after c answer number r w e f k small few =
     let two = answer ∷ number ∷ [] in
-    let fit : all_fit (6 ∷ 6 ∷ []) two ≡ true = six_fit two (rw (le-leb answer 65535 (omega arith), le-leb number 65535 (omega arith))) in
+    let fit : all_fit (6 ∷ 6 ∷ []) two ≡ true =
+    six_fit two (rw (le-leb answer 65535 (omega arith), le-leb number 65535 (omega arith))) in
     let can = writable-room (length before) (6 ∷ 6 ∷ []) two fit (omega arith) in
     let written : after ≡ line (6 ∷ 6 ∷ []) two =
-    w.bytes ∙ rw (can, line-length (6 ∷ 6 ∷ []) two fit, drop_of_length-le before {i = 13} (omega arith)) (append-nil (line (6 ∷ 6 ∷ []) two)) in
+    w.bytes ∙ rw (can, line-length (6 ∷ 6 ∷ []) two fit, drop_of_length-le before {i = 13} (omega arith))
+    (append-nil (line (6 ∷ 6 ∷ []) two)) in
     rw (f, written) (journal_line_lem s c answer number e)

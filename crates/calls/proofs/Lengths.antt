@@ -35,11 +35,14 @@ line_on_lem : (b : Board) (c : Seven) → Once b → SmallCall c → length (lin
 unfolding allotted
 line_on_lem b c o (p, (q, (r, (s, (t, (u, (v, w))))))) =
     let few : allotted b c 55 ≤ 10000 =
-    cond_both (eqb (answer b c 55) 0 && eqb c.call 1) (suc b.last) 0 (λ n. n ≤ 10000) (λ e. omega (arith, o.last)) (λ e. omega arith) in
-    line_55 c (answer b c 55) (allotted b c 55) (p, (q, (r, (s, (t, (u, (v, (omega (arith, answer_most b c 55), (omega arith, w)))))))))
+    cond_both (eqb (answer b c 55) 0 && eqb c.call 1) (suc b.last) 0 (λ n. n ≤ 10000) (λ e. omega (arith, o.last))
+    (λ e. omega arith) in
+    line_55 c (answer b c 55) (allotted b c 55)
+    (p, (q, (r, (s, (t, (u, (v, (omega (arith, answer_most b c 55), (omega arith, w)))))))))
 
 -- THEOREM: 55 bytes for each call
-pub journal-length : (b : Board) (calls : List Seven) → Once b → Each SmallCall calls → length (journal b calls) ≡ 55 * length calls
+pub journal-length : (b : Board) (calls : List Seven) → Once b → Each SmallCall calls
+    → length (journal b calls) ≡ 55 * length calls
 unfolding journal
 journal-length b [] o h = refl
 journal-length b (c ∷ calls) o h =
@@ -66,6 +69,7 @@ calls_small (suc n) text = go (line_in (take 43 text)) refl (calls_small n (drop
     go None e ih = tt
 
 -- THEOREM: a run's journal has 55 bytes for each call that it made
-pub run_length : (n : ℕ) (b : Board) (text : List ℕ) → Once b → length (run_of n b text).text ≡ 55 * (run_of n b text).lines
+pub run_length : (n : ℕ) (b : Board) (text : List ℕ) → Once b
+    → length (run_of n b text).text ≡ 55 * (run_of n b text).lines
 unfolding run_of
 run_length n b text o = journal-length b (calls_in n text) o (calls_small n text)

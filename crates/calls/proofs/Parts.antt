@@ -61,7 +61,8 @@ going_then : (b : Board) (text : List ℕ) (lines : ℕ) (r s : Run)
     → (going b text lines then_run (r then_run s)) ≡ ((going b text lines then_run r) then_run s)
 going_then b text lines r s = go r.stopped refl
   where
-    go : (z : Bool) → r.stopped ≡ z → (going b text lines then_run (r then_run s)) ≡ ((going b text lines then_run r) then_run s)
+    go : (z : Bool) → r.stopped ≡ z
+        → (going b text lines then_run (r then_run s)) ≡ ((going b text lines then_run r) then_run s)
     go true e = rw e
     go false e = rw (e, append_assoc text r.text s.text, add_assoc lines r.lines s.lines)
 
@@ -83,17 +84,27 @@ pub run_parts : (n m : ℕ) (b : Board) (s t : List ℕ) → length s ≡ 43 * n
     → run_of (n + m) b (s ++ t) ≡ (run_of n b s then_run run_of m (run_of n b s).board t)
 run_parts zero m b [] t e = rw (zero-add m, run_none b [], zero-add (run_of m b t).lines)
 run_parts zero m b (x ∷ s) t e = absurd (omega arith)
-run_parts (suc n) m b s t e = go (line_in (take 43 s)) refl (λ (b : Board). run_parts n m b (drop 43 s) t (other_length n s t e))
+run_parts (suc n) m b s t e =
+    go (line_in (take 43 s)) refl (λ (b : Board). run_parts n m b (drop 43 s) t (other_length n s t e))
   where
     go : (l : Option Seven) → line_in (take 43 s) ≡ l
-        → ((b : Board) → run_of (n + m) b (drop 43 s ++ t) ≡ (run_of n b (drop 43 s) then_run run_of m (run_of n b (drop 43 s)).board t))
+        → ((b : Board)
+        → run_of (n + m) b (drop 43 s ++ t)
+        ≡ (run_of n b (drop 43 s) then_run run_of m (run_of n b (drop 43 s)).board t))
         → run_of (suc n + m) b (s ++ t) ≡ (run_of (suc n) b s then_run run_of m (run_of (suc n) b s).board t)
     go (Some c) l ih =
         let b₁ = after b c 55 in
         let first = run_of n b₁ (drop 43 s) in
-        rw (suc-add n m, run_call b (s ++ t) (n + m) c (ap line_in (first_line n s t e) ∙ l), other_lines n s t e, ih b₁, run_call b s n c l)
+        rw (
+          suc-add n m,
+          run_call b (s ++ t) (n + m) c (ap line_in (first_line n s t e) ∙ l),
+          other_lines n s t e,
+          ih b₁,
+          run_call b s n c l,
+        )
         (going_then b₁ (line_on b c) 1 first (run_of m first.board t))
-    go None l ih = rw (suc-add n m, run_malformed b (s ++ t) (n + m) (ap line_in (first_line n s t e) ∙ l), run_malformed b s n l)
+    go None l ih =
+        rw (suc-add n m, run_malformed b (s ++ t) (n + m) (ap line_in (first_line n s t e) ∙ l), run_malformed b s n l)
 
 -- the calls of the whole: those of the first part and, where each of its lines is one, those of the second
 pub calls_parts : (n m : ℕ) (s t : List ℕ) → length s ≡ 43 * n
@@ -102,7 +113,8 @@ unfolding calls_in
 calls_parts zero m [] t e = rw (zero-add m)
 calls_parts zero m (x ∷ s) t e = absurd (omega arith)
 calls_parts (suc n) m s t e =
-    rw (suc-add n m, first_line n s t e, other_lines n s t e, calls_parts n m (drop 43 s) t (other_length n s t e)) (go (line_in (take 43 s)))
+    rw (suc-add n m, first_line n s t e, other_lines n s t e, calls_parts n m (drop 43 s) t (other_length n s t e))
+    (go (line_in (take 43 s)))
   where
     cs : List Seven
     cs = calls_in n (drop 43 s)
@@ -119,7 +131,8 @@ unfolding final
 final_append b [] ys = refl
 final_append b (m ∷ xs) ys = final_append (after b m.seven m.room) xs ys
 
-pub journal_append : (b : Board) (xs ys : List Seven) → journal b (xs ++ ys) ≡ journal b xs ++ journal (final b (map made xs)) ys
+pub journal_append : (b : Board) (xs ys : List Seven)
+    → journal b (xs ++ ys) ≡ journal b xs ++ journal (final b (map made xs)) ys
 unfolding journal final
 journal_append b [] ys = refl
 journal_append b (c ∷ xs) ys =
@@ -140,7 +153,8 @@ lines_of (a ∷ answers) [] = []
 lines_of (a ∷ answers) (n ∷ numbers) = journal_line a.seven a.answer n ++ lines_of answers numbers
 
 -- THEOREM: the journal of a list of calls is the lines of its trace
-pub run_trace : (b : Board) (calls : List Seven) → journal b calls ≡ lines_of (trace b (map made calls)) (allotted_in b calls)
+pub run_trace : (b : Board) (calls : List Seven)
+    → journal b calls ≡ lines_of (trace b (map made calls)) (allotted_in b calls)
 unfolding journal trace allotted_in lines_of
 run_trace b [] = refl
 run_trace b (c ∷ calls) = ap (λ (l : List ℕ). line_on b c ++ l) (run_trace (after b c 55) calls)
@@ -148,5 +162,6 @@ run_trace b (c ∷ calls) = ap (λ (l : List ℕ). line_on b c ++ l) (run_trace 
 -- THEOREM, demand 3 for a text of calls: on a board opened from any plan, what is reckoned from its calls and their
 -- answers, which are those that the journal shows, is safe
 pub run_safe : (plan text : List ℕ) (n : ℕ)
-    → Safe (open_board plan).gates (reckoned (open_board plan).gates start (trace (open_board plan) (map made (calls_in n text))))
+    → Safe (open_board plan).gates
+    (reckoned (open_board plan).gates start (trace (open_board plan) (map made (calls_in n text))))
 run_safe plan text n = demand_3 plan (map made (calls_in n text))

@@ -27,7 +27,13 @@ short_malformed : (at : ℕ) (text : List ℕ) → length text < at + 43 → lin
 short_malformed at text h = go (line_in (take 43 (drop at text))) refl
   where
     go : (l : Option Seven) → line_in (take 43 (drop at text)) ≡ l → l ≡ None
-    go (Some c) e = absurd (omega (arith, call_length (take 43 (drop at text)) c e, length-take 43 (drop at text), length-drop at text))
+    go (Some c) e =
+        absurd (omega (
+          arith,
+          call_length (take 43 (drop at text)) c e,
+          length-take 43 (drop at text),
+          length-drop at text,
+        ))
     go None e = refl
 
 -- ---- the loop: k of at most n calls made, from b₀ to b
@@ -39,9 +45,11 @@ pub record SoFar (n : ℕ) (b₀ : Board) (text out₀ : List ℕ) (k : ℕ) (b 
   pub stays : drop (55 * k) out ≡ drop (55 * k) out₀
   pub run : run_of n b₀ text ≡ (going b (take (55 * k) out) k then_run run_of (n - k) b (drop (43 * k) text))
 
-module _ (n : ℕ) (b₀ : Board) (text out₀ : List ℕ) (k : ℕ) (b : Board) (out : List ℕ) (so_far : SoFar n b₀ text out₀ k b out) where
+module _ (n : ℕ) (b₀ : Board) (text out₀ : List ℕ) (k : ℕ) (b : Board) (out : List ℕ)
+    (so_far : SoFar n b₀ text out₀ k b out) where
   -- a call more, with its line in the buffer
-  pub so_far_call : (c : Seven) (b₁ : Board) (line last : List ℕ) → k < n → 43 * k + 43 ≤ length text → 55 * n ≤ length out₀
+  pub so_far_call : (c : Seven) (b₁ : Board) (line last : List ℕ) → k < n → 43 * k + 43 ≤ length text
+      → 55 * n ≤ length out₀
       → line ≡ take 43 (drop (43 * k) text) → line_in line ≡ Some c → b₁ ≡ after b c 55
       → length last ≡ length (mid_of (55 * k) (55 * k + 55 - 55 * k) out) → last ≡ line_on b c
       → SoFar n b₀ text out₀ (k + 1) b₁ (put_mid (55 * k) (55 * k + 55 - 55 * k) out last)
@@ -58,13 +66,15 @@ module _ (n : ℕ) (b₀ : Board) (text out₀ : List ℕ) (k : ℕ) (b : Board)
       let l = fills ∙ part in
       let written : take (at + 55) (put_mid at (at + 55 - at) out last) ≡ take at out ++ last =
       rw (← append_assoc (take at out) last (post_of at (at + 55 - at) out))
-      (take_at (take at out ++ last) (post_of at (at + 55 - at) out) (at + 55) (rw (length-append (take at out) last, length-take-le at out (omega arith), l))) in
+      (take_at (take at out ++ last) (post_of at (at + 55 - at) out) (at + 55)
+      (rw (length-append (take at out) last, length-take-le at out (omega arith), l))) in
       record {
         few = omega arith;
         within = omega arith;
         long = same_len_mid at (at + 55 - at) out last fills ∙ long;
         stays =
-            rw place (drop_put at (at + 55) out last (omega arith) (omega arith) (l ∙ omega arith) ∙ sym (drop-drop 55 at out)
+            rw place (drop_put at (at + 55) out last (omega arith) (omega arith) (l ∙ omega arith)
+            ∙ sym (drop-drop 55 at out)
             ∙ ap (drop 55) so_far.stays ∙ drop-drop 55 at out₀);
         run =
             so_far.run
@@ -85,13 +95,16 @@ module _ (n : ℕ) (b₀ : Board) (text out₀ : List ℕ) (k : ℕ) (b : Board)
 -- ---- the end of the loop
 
 module _ (before register : Register) (text out₀ : List ℕ) (k : ℕ) (out : List ℕ)
-    (so_far : SoFar (length out₀ / 55) (board_of before) text out₀ k (board_of register) out) (kept : Kept register) where
+    (so_far : SoFar (length out₀ / 55) (board_of before) text out₀ k (board_of register) out)
+    (kept : Kept register) where
   -- nothing more
   done : (stopped : Bool)
-      → run_of (length out₀ / 55 - k) (board_of register) (drop (43 * k) text) ≡ record { board = board_of register; text = []; lines = 0; stopped = stopped }
+      → run_of (length out₀ / 55 - k) (board_of register) (drop (43 * k) text)
+      ≡ record { board = board_of register; text = []; lines = 0; stopped = stopped }
       → RunPost before text out₀ register k out
   done stopped e =
-      let all : run_of (length out₀ / 55) (board_of before) text ≡ record { board = board_of register; text = take (55 * k) out ++ []; lines = k + 0; stopped = stopped } =
+      let all : run_of (length out₀ / 55) (board_of before) text
+      ≡ record { board = board_of register; text = take (55 * k) out ++ []; lines = k + 0; stopped = stopped } =
       so_far.run ∙ rw e in
       record {
         board = rw all;
@@ -100,7 +113,8 @@ module _ (before register : Register) (text out₀ : List ℕ) (k : ℕ) (out : 
         kept = kept;
       }
 
-  malformed : k < length out₀ / 55 → line_in (take 43 (drop (43 * k) text)) ≡ None → RunPost before text out₀ register k out
+  malformed : k < length out₀ / 55 → line_in (take 43 (drop (43 * k) text)) ≡ None
+      → RunPost before text out₀ register k out
   malformed h e =
       let s : length out₀ / 55 - k ≡ suc (length out₀ / 55 - (k + 1)) = omega arith in
       done true (rw s (run_malformed (board_of register) (drop (43 * k) text) (length out₀ / 55 - (k + 1)) e))
@@ -111,9 +125,12 @@ module _ (before register : Register) (text out₀ : List ℕ) (k : ℕ) (out : 
     where
       go : (k < length out₀ / 55) ⊎ (length out₀ / 55 ≤ k) → RunPost before text out₀ register k out
       go (inl h) = malformed h (short_malformed (43 * k) text (short (omega arith)))
-      go (inr h) = let e : length out₀ / 55 - k ≡ 0 = omega arith in done false (rw e (run_none (board_of register) (drop (43 * k) text)))
+      go (inr h) =
+          let e : length out₀ / 55 - k ≡ 0 = omega arith in
+          done false (rw e (run_none (board_of register) (drop (43 * k) text)))
 
   -- the next line is malformed
-  pub done_malformed : (line : List ℕ) → k < length out₀ / 55 → line ≡ take 43 (drop (43 * k) text) → line_in line ≡ None
+  pub done_malformed : (line : List ℕ) → k < length out₀ / 55 → line ≡ take 43 (drop (43 * k) text)
+      → line_in line ≡ None
       → RunPost before text out₀ register k out
   done_malformed line h cut e = malformed h (rw (← cut) e)

@@ -117,10 +117,12 @@ digits_plain =
     by_tenths
     (λ n. any is_minus (digits n) ≡ false)
     (λ n h. let l : 48 + n ≡ 45 → ⊥ = (λ e. omega arith) in rw (digits_one n h, ne_eqb (48 + n) 45 l))
-    (λ n h ih. let l : 48 + n % 10 ≡ 45 → ⊥ = (λ e. omega arith) in rw (digits_more n h, any_append is_minus (digits (n / 10)) ((48 + n % 10) ∷ []), ih, ne_eqb (48 + n % 10) 45 l))
+    (λ n h ih. let l : 48 + n % 10 ≡ 45 → ⊥ = (λ e. omega arith) in
+    rw (digits_more n h, any_append is_minus (digits (n / 10)) ((48 + n % 10) ∷ []), ih, ne_eqb (48 + n % 10) 45 l))
 
 marks_back : (c : Cell)
-    → cond (any is_printed (marks c)) (cond (any is_minus (marks c)) (Minus (value_from 0 (marks c))) (Number (value_from 0 (marks c)))) Empty ≡ c
+    → cond (any is_printed (marks c))
+    (cond (any is_minus (marks c)) (Minus (value_from 0 (marks c))) (Number (value_from 0 (marks c)))) Empty ≡ c
 unfolding marks value_from
 marks_back Empty = refl
 marks_back (Number n) = rw (digits_printed n, digits_plain n, value_digits n)
@@ -130,7 +132,8 @@ pub read_cell : (w : ℕ) (c : Cell) → cell_in (cell w c) ≡ c
 unfolding cell_in cell
 read_cell w c =
     let k : ℕ = w - length (marks c) in
-    rw (any_blanks is_printed k (marks c) refl, any_blanks is_minus k (marks c) refl, value_blanks k (marks c)) (marks_back c)
+    rw (any_blanks is_printed k (marks c) refl, any_blanks is_minus k (marks c) refl, value_blanks k (marks c))
+    (marks_back c)
 
 -- two cells that print the same are the same
 pub cell_one : (w : ℕ) (c d : Cell) → cell w c ≡ cell w d → c ≡ d
@@ -143,7 +146,8 @@ set_behind : (s t : List ℕ) (i a v : ℕ) → length s ≡ i → set (s ++ (a 
 set_behind s t i a v e =
     let l : length (s ++ (a ∷ t)) ≡ i + suc (length t) = simp length-append (ap (λ (n : ℕ). n + suc (length t)) e) in
     let d : drop (suc i) (s ++ (a ∷ t)) ≡ t =
-    ap (drop (suc i)) (sym (append_assoc s (a ∷ []) t)) ∙ drop_at (s ++ (a ∷ [])) t (suc i) (length-append s (a ∷ []) ∙ omega arith) in
+    ap (drop (suc i)) (sym (append_assoc s (a ∷ []) t))
+    ∙ drop_at (s ++ (a ∷ [])) t (suc i) (length-append s (a ∷ []) ∙ omega arith) in
     set_split (s ++ (a ∷ t)) i v (omega arith) ∙ rw (take_at s (a ∷ t) i e, d)
 
 -- one blank more

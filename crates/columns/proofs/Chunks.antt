@@ -10,7 +10,8 @@ use lib.Seq.{take_at, drop_at, drop-drop}
 use Rattle.std.proofs.Math.Nat.{mul-suc}
 
 -- a chunk of w bytes off what is left of the text behind k lines is the next line
-pub next_line : (w k : ℕ) (text line rest rest' : List ℕ) → 0 < w → rest ≡ drop (w * k) text → rest ≡ line ++ rest' → length line ≡ w
+pub next_line : (w k : ℕ) (text line rest rest' : List ℕ) → 0 < w → rest ≡ drop (w * k) text → rest ≡ line ++ rest'
+    → length line ≡ w
     → (line ≡ take w (drop (w * k) text)) × (rest' ≡ drop (w * (k + 1)) text) × (w * k + w ≤ length text)
 next_line w k text line rest rest' pos d e l =
     let next : w * (k + 1) ≡ w * k + w = rw add-one (mul-suc w k) in (

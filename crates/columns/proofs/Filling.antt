@@ -67,7 +67,8 @@ unfolding front
 front_done t i n e = rw e
 
 -- and the last one: the bytes before it are the front of the number's tenth
-pub all_filled : (w n : ℕ) (before : List ℕ) → length before + 1 ≡ w → fits w n ≡ true → front (length before) (n / 10) ≡ before
+pub all_filled : (w n : ℕ) (before : List ℕ) → length before + 1 ≡ w → fits w n ≡ true
+    → front (length before) (n / 10) ≡ before
     → before ++ ((48 + n % 10) ∷ []) ≡ column w n
 all_filled w n before e f b =
     let l : suc (length before) ≡ w = omega arith in
@@ -81,17 +82,21 @@ pub ruleset filling = (none_filled, front_start, front_step, front_done, all_fil
 unfoldable pub size_from : ℕ → ℕ → List ℕ → List ℕ → Option ℕ
 size_from room s ws ns = cond (all_fit ws ns && leb (total ws + s) room) (Some (total ws + s)) None
 
-pub size_start : (room : ℕ) (ws ns : List ℕ) → cond (writable room ws ns) (Some (length (line ws ns))) None ≡ size_from room 1 ws ns
+pub size_start : (room : ℕ) (ws ns : List ℕ)
+    → cond (writable room ws ns) (Some (length (line ws ns))) None ≡ size_from room 1 ws ns
 unfolding writable size_from
 size_start room ws ns = elim (truth (all_fit ws ns)) [ inl e ↦ rw (line-length ws ns e) | inr e ↦ rw e ]
 
 -- there is no room for the numbers, if they fit at all
-pub size_none : (room s : ℕ) (ws ns : List ℕ) → (all_fit ws ns ≡ true → room < total ws + s) → size_from room s ws ns ≡ None
+pub size_none : (room s : ℕ) (ws ns : List ℕ) → (all_fit ws ns ≡ true → room < total ws + s)
+    → size_from room s ws ns ≡ None
 unfolding size_from
-size_none room s ws ns h = elim (truth (all_fit ws ns)) [ inl e ↦ rw (e, lt-leb (total ws + s) room (h e)) | inr e ↦ rw e ]
+size_none room s ws ns h =
+    elim (truth (all_fit ws ns)) [ inl e ↦ rw (e, lt-leb (total ws + s) room (h e)) | inr e ↦ rw e ]
 
 -- one number more, counted where it fits
-pub size_step : (room s w n : ℕ) (ws ns : List ℕ) → fits w n ≡ true → size_from room s (w ∷ ws) (n ∷ ns) ≡ size_from room (s + w) ws ns
+pub size_step : (room s w n : ℕ) (ws ns : List ℕ) → fits w n ≡ true
+    → size_from room s (w ∷ ws) (n ∷ ns) ≡ size_from room (s + w) ws ns
 unfolding size_from all_fit total
 size_step room s w n ws ns f = let e : w + total ws + s ≡ total ws + (s + w) = omega arith in rw (f, e)
 
@@ -116,7 +121,8 @@ pub record Next (w n : ℕ) (ws ns : List ℕ) : Type 0 where
 
 pub next_of : (w n : ℕ) (ws ns : List ℕ) → all_fit (w ∷ ws) (n ∷ ns) ≡ true → Next w n ws ns
 unfolding all_fit total
-next_of w n ws ns e = record { columns = refl; fit = and_l (fits w n) (all_fit ws ns) e; rest = and_r (fits w n) (all_fit ws ns) e }
+next_of w n ws ns e =
+    record { columns = refl; fit = and_l (fits w n) (all_fit ws ns) e; rest = and_r (fits w n) (all_fit ws ns) e }
 
 -- the number put into t
 pub line_step : (at w n : ℕ) (ws ns t t' : List ℕ) → at + w ≤ length t → fits w n ≡ true
@@ -126,7 +132,8 @@ unfolding line
 line_step at w n ws ns t t' r f p = part_done at w (column w n) (line ws ns) t t' r (column-length w n f) p
 
 -- every number put into t: the line feed
-pub line_end : (at : ℕ) (t ws ns : List ℕ) → ws ≡ [] → length t ≡ at + (total ws + 1) → set t at 10 ≡ take at t ++ line ws ns
+pub line_end : (at : ℕ) (t ws ns : List ℕ) → ws ≡ [] → length t ≡ at + (total ws + 1)
+    → set t at 10 ≡ take at t ++ line ws ns
 unfolding line total
 line_end at t ws ns w e =
     let n : length t ≡ at + 1 = rw w at e in
@@ -150,7 +157,8 @@ pub record Sized (size room : ℕ) (ws ns : List ℕ) : Type 0 where
   pub long : size ≡ length (line ws ns)
   pub within : size ≤ room
 
-pub size_some : (size room : ℕ) (ws ns : List ℕ) → Some size ≡ cond (writable room ws ns) (Some (length (line ws ns))) None
+pub size_some : (size room : ℕ) (ws ns : List ℕ)
+    → Some size ≡ cond (writable room ws ns) (Some (length (line ws ns))) None
     → Sized size room ws ns
 size_some size room ws ns e = elim (truth (writable room ws ns)) [ inl t ↦ sized t | inr f ↦ (let h = rw f at e in cc) ]
   where
@@ -162,7 +170,8 @@ size_some size room ws ns e = elim (truth (writable room ws ns)) [ inl t ↦ siz
         record { can = t; fit = k.0; long = l; within = rw l k.1 }
 
 -- the line in the buffer
-pub written : (size : ℕ) (ws ns buffer after : List ℕ) → Sized size (length buffer) ws ns → after ≡ line ws ns ++ drop size buffer
+pub written : (size : ℕ) (ws ns buffer after : List ℕ) → Sized size (length buffer) ws ns
+    → after ≡ line ws ns ++ drop size buffer
     → Written ws ns buffer after true
 unfolding with_line
 written size ws ns buffer after s p = record { answered = sym s.can; bytes = p ∙ rw (s.can, s.long) }

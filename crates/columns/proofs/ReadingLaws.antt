@@ -33,10 +33,13 @@ is_read most n s e = go (is_column v s && leb v most) refl e
     v : ℕ
     v = value_from 0 s
 
-    go : (t : Bool) → (is_column v s && leb v most) ≡ t → cond t (Some v) None ≡ Some n → (s ≡ column (length s) n) × (n ≤ most)
+    go : (t : Bool) → (is_column v s && leb v most) ≡ t → cond t (Some v) None ≡ Some n
+        → (s ≡ column (length s) n) × (n ≤ most)
     go true p q =
-        let z : v ≡ n = cc in
-        (same_eq s (column (length s) n) (rw z at (and_l (is_column v s) (leb v most) p)), rw z at (leb-true v most (and_r (is_column v s) (leb v most) p)))
+        let z : v ≡ n = cc in (
+          same_eq s (column (length s) n) (rw z at (and_l (is_column v s) (leb v most) p)),
+          rw z at (leb-true v most (and_r (is_column v s) (leb v most) p)),
+        )
     go false p q = unread q
 
 -- a text that is read as a number is that number's columns
@@ -76,7 +79,8 @@ read_scan most s =
     agree
     (bare most (drop (blanks s) s))
     (read_column most s)
-    (λ n e. let r = bare_is most n (drop (blanks s) s) e in rw (blanks_split s, r.1) (behind_blanks most (blanks s) n r.0))
+    (λ n e. let r = bare_is most n (drop (blanks s) s) e in
+    rw (blanks_split s, r.1) (behind_blanks most (blanks s) n r.0))
     (λ n e. let r = is_read most n s e in rw r.0 (scan_column most (length s) n r.1))
 
 -- digits with a 0 before others
@@ -100,13 +104,16 @@ module _ (most : ℕ) (s : List ℕ) where
   read_zeros (b ∷ c ∷ d) e h = rw (← read_bare (b ∷ c ∷ d) e, and_l (eqb b 48) (ltb 1 (length (b ∷ c ∷ d))) h)
 
   -- 0 alone is scanned as any other digits are
-  pub read_digits : (d : List ℕ) → d ≡ drop (blanks s) s → (length d ≡ 0 → ⊥) → leads d ≡ false → scan_digits most 0 d ≡ read_column most s
+  pub read_digits : (d : List ℕ) → d ≡ drop (blanks s) s → (length d ≡ 0 → ⊥) → leads d ≡ false
+      → scan_digits most 0 d ≡ read_column most s
   unfolding bare scan_digits
   read_digits [] e h z = absurd (omega arith)
   read_digits (b ∷ []) e h z = ⊎_elim
-      (λ (t : eqb b 48 ≡ true). let b0 = eqb-true b 48 t in rw b0 (scan_step 0 (48 ∷ []) most 0 (omega arith) (omega arith) ∙ read_bare (48 ∷ []) (rw b0 at e)))
+      (λ (t : eqb b 48 ≡ true). let b0 = eqb-true b 48 t in
+      rw b0 (scan_step 0 (48 ∷ []) most 0 (omega arith) (omega arith) ∙ read_bare (48 ∷ []) (rw b0 at e)))
       (λ (t : eqb b 48 ≡ false). rw (← read_bare (b ∷ []) e, t))
       (truth (eqb b 48))
   read_digits (b ∷ c ∷ d) e h z =
-      let other : eqb b 48 ≡ false = sym (and-true (eqb b 48)) ∙ (rw (lt-ltb 1 (length (b ∷ c ∷ d)) (omega arith)) at z) in
+      let other : eqb b 48 ≡ false =
+      sym (and-true (eqb b 48)) ∙ (rw (lt-ltb 1 (length (b ∷ c ∷ d)) (omega arith)) at z) in
       rw (← read_bare (b ∷ c ∷ d) e, other)

@@ -34,19 +34,24 @@ module _ (most w n : ℕ) where
   unfolding first_column
   first_column_lem s f h =
       let l : w ≤ length (column w n ++ s) = omega (arith, length-append (column w n) s, column-length w n f) in
-      rw (le-leb w (length (column w n ++ s)) l, take_at (column w n) s w (column-length w n f)) (read_column_lem most w n f h)
+      rw (le-leb w (length (column w n ++ s)) l, take_at (column w n) s w (column-length w n f))
+      (read_column_lem most w n f h)
 
   first_read : (s : List ℕ) → first_column most w s ≡ Some n → (take w s ≡ column w n) × (n ≤ most)
   unfolding first_column
   first_read s e = go (leb w (length s)) refl e
     where
-      go : (t : Bool) → leb w (length s) ≡ t → cond t (read_column most (take w s)) None ≡ Some n → (take w s ≡ column w n) × (n ≤ most)
-      go true p q =
-          (rw (length-take-le w s (leb-true w (length s) p)) at (column_read most n (take w s) q), read_most most n (take w s) q)
+      go : (t : Bool) → leb w (length s) ≡ t → cond t (read_column most (take w s)) None ≡ Some n
+          → (take w s ≡ column w n) × (n ≤ most)
+      go true p q = (
+        rw (length-take-le w s (leb-true w (length s) p)) at (column_read most n (take w s) q),
+        read_most most n (take w s) q,
+      )
       go false p q = unread q
 
 -- numbers that fit their columns are read back from their line
-pub read_line : (most : ℕ) (ws ns : List ℕ) → all_fit ws ns ≡ true → at_most most ns ≡ true → row_of most ws (line ws ns) ≡ record { numbers = ns; whole = true }
+pub read_line : (most : ℕ) (ws ns : List ℕ) → all_fit ws ns ≡ true → at_most most ns ≡ true
+    → row_of most ws (line ws ns) ≡ record { numbers = ns; whole = true }
 unfolding at_most all_fit line row_of same_text
 read_line most [] [] f h = refl
 read_line most [] (n ∷ ns) f h = absurd (false≢true f)
@@ -63,7 +68,8 @@ pub record IsLine (most : ℕ) (ws s ns : List ℕ) : Type 0 where
   pub count : length ns ≡ length ws
   pub small : at_most most ns ≡ true
 
-pub line_read : (most : ℕ) (ws s : List ℕ) → (row_of most ws s).whole ≡ true → IsLine most ws s (row_of most ws s).numbers
+pub line_read : (most : ℕ) (ws s : List ℕ) → (row_of most ws s).whole ≡ true
+    → IsLine most ws s (row_of most ws s).numbers
 unfolding at_most line row_of
 line_read most [] s e = record { text = same_eq s (10 ∷ []) e; count = refl; small = refl }
 line_read most (w ∷ ws) s e = go (first_column most w s) refl e (line_read most ws (drop w s))
@@ -71,7 +77,8 @@ line_read most (w ∷ ws) s e = go (first_column most w s) refl e (line_read mos
     row : Row
     row = row_of most ws (drop w s)
 
-    go : (r : Option ℕ) → first_column most w s ≡ r → (with_column r row).whole ≡ true → (row.whole ≡ true → IsLine most ws (drop w s) row.numbers)
+    go : (r : Option ℕ) → first_column most w s ≡ r → (with_column r row).whole ≡ true
+        → (row.whole ≡ true → IsLine most ws (drop w s) row.numbers)
         → IsLine most (w ∷ ws) s (with_column r row).numbers
     go (Some n) p q ih =
         let r = ih q in
@@ -106,7 +113,8 @@ end_other [] h = refl
 end_other (b ∷ []) h = rw (ne_eqb b 10 (h refl))
 end_other (b ∷ c ∷ s) h = and-false (eqb b 10)
 
--- ---- the loop: the numbers read so far, and behind them the row of the columns left, in which nothing more may be read
+-- ---- the loop: the numbers read so far, and behind them the row of the columns left, in which
+-- nothing more may be read
 abbrev pub behind : List ℕ → Row → Row
 behind ns row = record { numbers = ns ++ row.numbers; whole = row.whole }
 
@@ -136,7 +144,8 @@ module _ (count most : ℕ) (ws s : List ℕ) where
 
   module _ (k : ℕ) (numbers rest : List ℕ) (so_far : SoFar k numbers rest) where
     -- the answer, where nothing more is read
-    row_ended : (whole : Bool) → row_of most (drop k ws) rest ≡ ended whole → numbers_in count most ws s ≡ cond whole (Some (take k numbers)) None
+    row_ended : (whole : Bool) → row_of most (drop k ws) rest ≡ ended whole
+        → numbers_in count most ws s ≡ cond whole (Some (take k numbers)) None
     row_ended whole e = numbers_asked so_far.asked ∙ rw (so_far.row, e, append-nil (take k numbers))
 
     row_stop : k < length ws → first_column most (get_or ws k 0) rest ≡ None → None ≡ numbers_in count most ws s
@@ -154,7 +163,8 @@ module _ (count most : ℕ) (ws s : List ℕ) where
           places = simp length-set so_far.places;
           row =
               so_far.row ∙ rw (add-one, drop-cons ws k 0 h, e, take-suc-set numbers k n l)
-              (ap (λ (ns : List ℕ). record { numbers = ns; whole = m.whole }) (sym (append_assoc (take k numbers) (n ∷ []) m.numbers)));
+              (ap (λ (ns : List ℕ). record { numbers = ns; whole = m.whole })
+              (sym (append_assoc (take k numbers) (n ∷ []) m.numbers)));
         }
 
     -- the column at k, w bytes wide: it is cut short, or it is split off what is left
@@ -172,7 +182,8 @@ module _ (count most : ℕ) (ws s : List ℕ) where
         pub row_next : (n : ℕ) → Some n ≡ read_column most column → SoFar (k + 1) (set numbers k n) left
         row_next n e = rw (parts.2, width) (row_more n more (read ∙ sym e))
 
-    row_end : (whole : Bool) → length ws ≤ k → same_text rest (10 ∷ []) ≡ whole → row_of most (drop k ws) rest ≡ ended whole
+    row_end : (whole : Bool) → length ws ≤ k → same_text rest (10 ∷ []) ≡ whole
+        → row_of most (drop k ws) rest ≡ ended whole
     unfolding row_of
     row_end whole h e = rw (drop_of_length-le ws h, e)
 

@@ -23,7 +23,8 @@ same_eq [] [] e = refl
 same_eq [] (b ∷ t) e = absurd (false≢true e)
 same_eq (a ∷ s) [] e = absurd (false≢true e)
 same_eq (a ∷ s) (b ∷ t) e =
-    ap₂ (λ (x : ℕ) (l : List ℕ). x ∷ l) (eqb-true a b (and_l (eqb a b) (same_text s t) e)) (same_eq s t (and_r (eqb a b) (same_text s t) e))
+    ap₂ (λ (x : ℕ) (l : List ℕ). x ∷ l) (eqb-true a b (and_l (eqb a b) (same_text s t) e))
+    (same_eq s t (and_r (eqb a b) (same_text s t) e))
 
 -- the digits of a column make the number; blanks add nothing
 pub value_blanks : (k : ℕ) (s : List ℕ) → value_from 0 (replicate k 32 ++ s) ≡ value_from 0 s

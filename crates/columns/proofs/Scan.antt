@@ -42,7 +42,8 @@ module _ (most v b : ℕ) (s : List ℕ) where
   scan_no : (Goes most v b → ⊥) → scan_digits most v (b ∷ s) ≡ None
   scan_no h = ⊎_elim (λ g. absurd (h g)) (λ e. e) scan_cases
 
-  goes : {n : ℕ} → scan_digits most v (b ∷ s) ≡ Some n → Goes most v b × (scan_digits most (v * 10 + (b - 48)) s ≡ Some n)
+  goes : {n : ℕ} → scan_digits most v (b ∷ s) ≡ Some n
+      → Goes most v b × (scan_digits most (v * 10 + (b - 48)) s ≡ Some n)
   goes e = ⊎_elim (λ g. (g, sym (scan_yes g) ∙ e)) (λ m. unread (sym m ∙ e)) scan_cases
 
 -- ---- digits
@@ -63,7 +64,8 @@ digits_snoc v d h l =
     digits_more (v * 10 + d) (omega arith) ∙ rw (q, r)
 
 -- ---- the digits of a number are scanned
-scan_append : (most v m : ℕ) (s t : List ℕ) → scan_digits most v s ≡ Some m → scan_digits most v (s ++ t) ≡ scan_digits most m t
+scan_append : (most v m : ℕ) (s t : List ℕ) → scan_digits most v s ≡ Some m
+    → scan_digits most v (s ++ t) ≡ scan_digits most m t
 unfolding scan_digits
 scan_append most v m [] t e = let z : v ≡ m = cc in rw z
 scan_append most v m (b ∷ s) t e =
@@ -94,7 +96,8 @@ scanned most v n (b ∷ s) h e =
     let z : 48 + (b - 48) ≡ b = omega arith in (
       r.0,
       rw (lt-ltb b 58 d) r.1,
-      λ p. r.2 (omega arith) ∙ ap (λ (t : List ℕ). t ++ s) (digits_snoc v (b - 48) p (omega arith)) ∙ rw z (append_assoc (digits v) (b ∷ []) s),
+      λ p. r.2 (omega arith) ∙ ap (λ (t : List ℕ). t ++ s) (digits_snoc v (b - 48) p (omega arith))
+          ∙ rw z (append_assoc (digits v) (b ∷ []) s),
     )
 
 -- the digits of a number make it
@@ -133,8 +136,11 @@ unfolding bare
 bare_is most n [] e = unread e
 bare_is most n (b ∷ s) e = go (eqb b 48) s refl e
   where
-    go : (t : Bool) (s : List ℕ) → eqb b 48 ≡ t → cond t (alone s) (scan_digits most 0 (b ∷ s)) ≡ Some n → (n ≤ most) × (b ∷ s ≡ digits n)
-    go true [] p q = let z : 0 ≡ n = cc in (omega arith, rw (← z, digits_one 0 (omega arith)) (ap (λ (x : ℕ). x ∷ []) (eqb-true b 48 p)))
+    go : (t : Bool) (s : List ℕ) → eqb b 48 ≡ t → cond t (alone s) (scan_digits most 0 (b ∷ s)) ≡ Some n
+        → (n ≤ most) × (b ∷ s ≡ digits n)
+    go true [] p q =
+        let z : 0 ≡ n = cc in
+        (omega arith, rw (← z, digits_one 0 (omega arith)) (ap (λ (x : ℕ). x ∷ []) (eqb-true b 48 p)))
     go true (c ∷ s) p q = unread q
     go false s p q =
         let g = goes most 0 b s q in
@@ -154,7 +160,8 @@ unfolding blanks
 blanks_split [] = refl
 blanks_split (b ∷ s) = go (eqb b 32) refl (blanks_split s)
   where
-    go : (t : Bool) → eqb b 32 ≡ t → s ≡ replicate (blanks s) 32 ++ drop (blanks s) s → b ∷ s ≡ replicate (blanks (b ∷ s)) 32 ++ drop (blanks (b ∷ s)) (b ∷ s)
+    go : (t : Bool) → eqb b 32 ≡ t → s ≡ replicate (blanks s) 32 ++ drop (blanks s) s
+        → b ∷ s ≡ replicate (blanks (b ∷ s)) 32 ++ drop (blanks (b ∷ s)) (b ∷ s)
     go true e ih = rw (e, blanks) (cc (eqb-true b 32 e))
     go false e ih = rw (e, blanks)
 
@@ -167,13 +174,15 @@ unfolding blanks
 blanks_taken [] = refl
 blanks_taken (b ∷ s) = go (eqb b 32) refl (blanks_taken s)
   where
-    go : (t : Bool) → eqb b 32 ≡ t → blanks s ≡ prefix_len (λ b. eqb b 32) s → blanks (b ∷ s) ≡ prefix_len (λ b. eqb b 32) (b ∷ s)
+    go : (t : Bool) → eqb b 32 ≡ t → blanks s ≡ prefix_len (λ b. eqb b 32) s
+        → blanks (b ∷ s) ≡ prefix_len (λ b. eqb b 32) (b ∷ s)
     go true e ih = rw (e, blanks) (omega (arith, ih))
     go false e ih = rw (e, blanks)
 
 -- ---- the loop over the digits, at the place i
 module _ (i : ℕ) (t : List ℕ) (most v : ℕ) where
-  pub scan_step : i < length t → Goes most v (get_or t i 0) → scan_digits most v (drop i t) ≡ scan_digits most (v * 10 + (get_or t i 0 - 48)) (drop (i + 1) t)
+  pub scan_step : i < length t → Goes most v (get_or t i 0)
+      → scan_digits most v (drop i t) ≡ scan_digits most (v * 10 + (get_or t i 0 - 48)) (drop (i + 1) t)
   scan_step h g = rw (add-one, drop-cons t i 0) (scan_yes most v (get_or t i 0) (drop (suc i) t) g)
 
   pub scan_stop : i < length t → (Goes most v (get_or t i 0) → ⊥) → scan_digits most v (drop i t) ≡ None

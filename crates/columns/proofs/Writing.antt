@@ -57,7 +57,8 @@ unfolding column fits
 column-length w n e = simp (length-append, length-replicate) (omega (arith, leb-true (length (digits n)) w e))
 
 -- a text filled with a number that fits it is the number's column
-pub filled_column : (t : List ℕ) (n : ℕ) (after : List ℕ) (answer : Bool) → ColumnFilled t n after answer → fits (length t) n ≡ true
+pub filled_column : (t : List ℕ) (n : ℕ) (after : List ℕ) (answer : Bool) → ColumnFilled t n after answer
+    → fits (length t) n ≡ true
     → after ≡ column (length t) n
 filled_column t n after answer f e = f.bytes ∙ rw e
 
@@ -69,9 +70,11 @@ front (suc w) n = front w (n / 10) ++ (mark n ∷ [])
 front_blank : (w : ℕ) → front w 0 ≡ replicate w 32
 unfolding front
 front_blank zero = refl
-front_blank (suc w) = rw (front_blank w, replicate-append-replicate {A = ℕ} w 1 32) (ap (λ (k : ℕ). replicate k 32) (add-one w))
+front_blank (suc w) =
+    rw (front_blank w, replicate-append-replicate {A = ℕ} w 1 32) (ap (λ (k : ℕ). replicate k 32) (add-one w))
 
-last_column : (w n : ℕ) → (10 ≤ n → front w (n / 10) ≡ column w (n / 10)) → column (suc w) n ≡ front w (n / 10) ++ ((48 + n % 10) ∷ [])
+last_column : (w n : ℕ) → (10 ≤ n → front w (n / 10) ≡ column w (n / 10))
+    → column (suc w) n ≡ front w (n / 10) ++ ((48 + n % 10) ∷ [])
 unfolding column
 last_column w n before = elim (lt_or_le n 10) [ inl h ↦ one h | inr h ↦ more h ]
   where
@@ -107,13 +110,15 @@ column-front w n e =
 pub part_length : (a e w : ℕ) (xs : List ℕ) → e ≤ length xs → a + w ≡ e → length (mid_of a (e - a) xs) ≡ w
 part_length a e w xs h p = mid_len a e xs h ∙ omega arith
 
-pub part_back : (f : ℕ → List ℕ) (a e w : ℕ) (xs ys : List ℕ) → e ≤ length xs → a + w ≡ e → ys ≡ f (length (mid_of a (e - a) xs))
+pub part_back : (f : ℕ → List ℕ) (a e w : ℕ) (xs ys : List ℕ) → e ≤ length xs → a + w ≡ e
+    → ys ≡ f (length (mid_of a (e - a) xs))
     → put_mid a (e - a) xs ys ≡ take a xs ++ (f w ++ drop e xs)
 part_back f a e w xs ys h p q =
     ap₂ (λ (y z : List ℕ). take a xs ++ (y ++ z)) (q ∙ ap f (part_length a e w xs h p)) (Post-is a e xs (omega arith))
 
 -- ---- a text written part by part: x stored in the w bytes from at, with y still to come
-pub part_done : (at w : ℕ) (x y t t' : List ℕ) → at + w ≤ length t → length x ≡ w → t' ≡ take at t ++ (x ++ drop (at + w) t)
+pub part_done : (at w : ℕ) (x y t t' : List ℕ) → at + w ≤ length t → length x ≡ w
+    → t' ≡ take at t ++ (x ++ drop (at + w) t)
     → take at t ++ (x ++ y) ≡ take (at + w) t' ++ y
 part_done at w x y t t' r e p =
     let l : length (take at t ++ x) ≡ at + w = simp (length-append, length-take-le at t (omega arith)) (omega arith) in
@@ -146,12 +151,14 @@ fit_lengths (w ∷ ws) [] e = absurd (false≢true e)
 fit_lengths (w ∷ ws) (n ∷ ns) e = ap suc (fit_lengths ws ns (and_r (fits w n) (all_fit ws ns) e))
 
 -- a line can be written where its numbers fit and there is room for their columns and the line feed
-pub writable-room : (room : ℕ) (ws ns : List ℕ) → all_fit ws ns ≡ true → total ws + 1 ≤ room → writable room ws ns ≡ true
+pub writable-room : (room : ℕ) (ws ns : List ℕ) → all_fit ws ns ≡ true → total ws + 1 ≤ room
+    → writable room ws ns ≡ true
 unfolding writable
 writable-room room ws ns e h = rw (e, line-length ws ns e) (le-leb (total ws + 1) room h)
 
 -- and only there
-pub writable_known : (room : ℕ) (ws ns : List ℕ) → writable room ws ns ≡ true → (all_fit ws ns ≡ true) × (length (line ws ns) ≤ room)
+pub writable_known : (room : ℕ) (ws ns : List ℕ) → writable room ws ns ≡ true
+    → (all_fit ws ns ≡ true) × (length (line ws ns) ≤ room)
 unfolding writable
 writable_known room ws ns e =
     let a = all_fit ws ns in
@@ -159,6 +166,8 @@ writable_known room ws ns e =
     (and_l a b e, leb-true (length (line ws ns)) room (and_r a b e))
 
 -- a line that can be written leaves the buffer as long as it was
-pub with_line-length : (ws ns buffer : List ℕ) → writable (length buffer) ws ns ≡ true → length (with_line ws ns buffer) ≡ length buffer
+pub with_line-length : (ws ns buffer : List ℕ) → writable (length buffer) ws ns ≡ true
+    → length (with_line ws ns buffer) ≡ length buffer
 unfolding with_line
-with_line-length ws ns buffer e = simp (length-append, length-drop) (omega (arith, (writable_known (length buffer) ws ns e).1))
+with_line-length ws ns buffer e =
+    simp (length-append, length-drop) (omega (arith, (writable_known (length buffer) ws ns e).1))

@@ -20,7 +20,8 @@ no_kind (suc zero) h = absurd (h Lpa refl)
 no_kind (suc (suc zero)) h = absurd (h Toa refl)
 no_kind (suc (suc (suc n))) h = refl
 
-pub kind_or_twa : (n : ℕ) (r : Result Kind NoSuchKind) → MatchResult r (λ k. kind_no k ≡ n) (λ _. (k : Kind) → kind_no k ≡ n → ⊥)
+pub kind_or_twa : (n : ℕ) (r : Result Kind NoSuchKind)
+    → MatchResult r (λ k. kind_no k ≡ n) (λ _. (k : Kind) → kind_no k ≡ n → ⊥)
     → result_unwrap_or r Twa ≡ kind_of n
 kind_or_twa n (Ok k) e = kind_found n k e
 kind_or_twa n (Err x) h = no_kind n h

@@ -13,7 +13,9 @@ take-put_mid : (at k n : ℕ) (buf part : List ℕ) → at ≤ length buf → n 
 take-put_mid at k n buf part within fits =
     let after = post_of at k buf in
     let whole = put_mid at k buf part in
-    let rest = ap (take n) (drop_at (take at buf) (part ++ after) at (length-take-le at buf within)) ∙ take-append-le n part after fits in
+    let rest =
+    ap (take n) (drop_at (take at buf) (part ++ after) at (length-take-le at buf within))
+    ∙ take-append-le n part after fits in
     take-add at n whole ∙ ap₂ (λ (xs ys : List ℕ). xs ++ ys) (take-put_mid_below _ _ _ _ _ (le_refl _) within) rest
 
 pub filled-more : (a b c : Option (List ℕ)) (at k n : ℕ) (buf part : List ℕ) → at ≤ length buf → n ≤ length part

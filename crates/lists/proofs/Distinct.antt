@@ -34,9 +34,11 @@ module _ {A : Type 0} (number : A → ℕ) where
   -- it stays taken where each number is kept, and where only others are left out
   pub taken_change : (test : A → Bool) (f : A → A) → ((x : A) → number (f x) ≡ number x) → (xs : List A) (n : ℕ)
       → Taken xs n → Taken (change test f xs) n
-  taken_change test f same xs n (x, m, e) = (changed test f x, changes_to test f xs x m, changed-number test f same x ∙ e)
+  taken_change test f same xs n (x, m, e) =
+      (changed test f x, changes_to test f xs x m, changed-number test f same x ∙ e)
 
-  pub taken_keep : (test : A → Bool) (xs : List A) (n : ℕ) → ((x : A) → number x ≡ n → test x ≡ true) → Taken xs n → Taken (keep test xs) n
+  pub taken_keep : (test : A → Bool) (xs : List A) (n : ℕ) → ((x : A) → number x ≡ n → test x ≡ true) → Taken xs n
+      → Taken (keep test xs) n
   taken_keep test xs n passes (x, m, e) = (x, keeps test xs x (passes x e) m, e)
 
   -- ---- what distinct numbers tell: two elements with one number are one element
@@ -44,14 +46,16 @@ module _ {A : Type 0} (number : A → ℕ) where
   same_one : (xs : List A) (x y : A) → Free (number y) xs → Member x xs → number x ≡ number y → x ≡ y
   same_one xs x y h m e = clash (eq-eqb (number x) (number y) e) (any_no (numbered number (number y)) xs h x m)
 
-  pick : (z : A) (zs : List A) → Free (number z) zs → (x y : A) → number x ≡ number y → (Member x zs → Member y zs → x ≡ y)
+  pick : (z : A) (zs : List A) → Free (number z) zs → (x y : A) → number x ≡ number y
+      → (Member x zs → Member y zs → x ≡ y)
       → (x ≡ z) ⊎ Member x zs → (y ≡ z) ⊎ Member y zs → x ≡ y
   pick z zs h x y e ih (inl p) (inl q) = p ∙ sym q
   pick z zs h x y e ih (inl p) (inr q) = sym (same_one zs y x (rw p h) q (sym e))
   pick z zs h x y e ih (inr p) (inl q) = same_one zs x y (rw q h) p e
   pick z zs h x y e ih (inr p) (inr q) = ih p q
 
-  pub one_of_number : (xs : List A) → Distinct number xs → (x y : A) → Member x xs → Member y xs → number x ≡ number y → x ≡ y
+  pub one_of_number : (xs : List A) → Distinct number xs → (x y : A) → Member x xs → Member y xs → number x ≡ number y
+      → x ≡ y
   unfolding Distinct
   one_of_number [] u x y m k e = elim m [ ]
   one_of_number (z ∷ zs) u x y m k e =

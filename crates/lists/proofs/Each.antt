@@ -5,12 +5,14 @@ use Rattle.lists.specs.Each.{EachGives, ChangesTo, ChangedWhere}
 use Rattle.lists.specs.Search.{change}
 
 module _ {A : Type 0} where
-  step : (P : A → Bool → Type 0) (F : A → A → Type 0) (test : A → Bool) (f : A → A) → ((x : A) (b : Bool) → P x b → b ≡ test x)
+  step : (P : A → Bool → Type 0) (F : A → A → Type 0) (test : A → Bool) (f : A → A)
+      → ((x : A) (b : Bool) → P x b → b ≡ test x)
       → ((x y : A) → F x y → y ≡ f x) → (x y : A) → ChangesTo P F x y → y ≡ cond (test x) (f x) x
   step P F test f tests gives x y (inl k) = rw (← tests x true k.0) (gives x y k.1)
   step P F test f tests gives x y (inr k) = rw (← tests x false k.0) k.1
 
-  each_changed : (P : A → Bool → Type 0) (F : A → A → Type 0) (test : A → Bool) (f : A → A) → ((x : A) (b : Bool) → P x b → b ≡ test x)
+  each_changed : (P : A → Bool → Type 0) (F : A → A → Type 0) (test : A → Bool) (f : A → A)
+      → ((x : A) (b : Bool) → P x b → b ≡ test x)
       → ((x y : A) → F x y → y ≡ f x) → (xs ys : List A) → EachGives (ChangesTo P F) xs ys → ys ≡ change test f xs
   unfolding change
   each_changed P F test f tests gives [] [] e = refl
@@ -20,7 +22,8 @@ module _ {A : Type 0} where
       rw (step P F test f tests gives x y e.0, each_changed P F test f tests gives xs ys e.1)
 
   -- where the test's answers and the changes are those of two functions, the list is the one that these change
-  pub changed-where : {P : A → Bool → Type 0} {F : A → A → Type 0} {xs ys : List A} (test : A → Bool) (f : A → A) → ChangedWhere P F xs ys
+  pub changed-where : {P : A → Bool → Type 0} {F : A → A → Type 0} {xs ys : List A} (test : A → Bool) (f : A → A)
+      → ChangedWhere P F xs ys
       → ((x : A) (b : Bool) → P x b → b ≡ test x) → ((x y : A) → F x y → y ≡ f x) → ys ≡ change test f xs
   changed-where {P} {F} {xs} {ys} test f e tests gives = each_changed P F test f tests gives xs ys e.each
 

@@ -21,7 +21,8 @@ as_step false b found none r x y e = e
 
 -- in the words of `any` and `first`
 pub search_as : {A R : Type 0} {test : A → Bool} {found : A → R} {none : R} {answer : List A → R}
-    → Searches test found none answer → (d : A) (l : List A) → answer l ≡ cond (any test l) (found (first test d l)) none
+    → Searches test found none answer
+    → (d : A) (l : List A) → answer l ≡ cond (any test l) (found (first test d l)) none
 unfolding first
 search_as s d [] = s.of_none
 search_as {test = test} {found = found} {none = none} {answer = answer} s d (x ∷ xs) =

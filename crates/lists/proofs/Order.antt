@@ -33,7 +33,8 @@ module _ {A : Type 0} (number : A → ℕ) where
   )
 
   -- and of two places the first has the lower number
-  pub ascending_at : (d : A) (xs : List A) → Ascending number xs → (i j : ℕ) → i < j → j < length xs → number (get_or xs i d) < number (get_or xs j d)
+  pub ascending_at : (d : A) (xs : List A) → Ascending number xs → (i j : ℕ) → i < j → j < length xs
+      → number (get_or xs i d) < number (get_or xs j d)
   unfolding Ascending
   ascending_at d [] u i j l k = absurd (omega arith)
   ascending_at d (x ∷ xs) u i zero l k = absurd (omega arith)
@@ -49,7 +50,8 @@ module _ {A : Type 0} (number : A → ℕ) where
   ascending_append [] x u h = (λ y m. elim m [ ], tt)
   ascending_append (z ∷ zs) x u h = (
     λ y m.
-        ⊎_elim (λ k. u.0 y k) (λ e. omega (arith, ap number (Memᴰ.eq_of_singleton e), h z (Memᴰ.head refl))) (Memᴰ.append_cases zs m),
+        ⊎_elim (λ k. u.0 y k) (λ e. omega (arith, ap number (Memᴰ.eq_of_singleton e), h z (Memᴰ.head refl)))
+        (Memᴰ.append_cases zs m),
     ascending_append zs x u.1 (λ y m. h y (Memᴰ.tail m)),
   )
 
@@ -66,7 +68,8 @@ module _ {A : Type 0} (number : A → ℕ) where
   ascending_keep test (x ∷ xs) u = keep_step test x xs (test x) u.0 (ascending_keep test xs u.1)
 
   -- a change that keeps each number
-  pub ascending_change : (test : A → Bool) (f : A → A) → ((x : A) → number (f x) ≡ number x) → (xs : List A) → Ascending number xs
+  pub ascending_change : (test : A → Bool) (f : A → A) → ((x : A) → number (f x) ≡ number x)
+      → (xs : List A) → Ascending number xs
       → Ascending number (change test f xs)
   unfolding Ascending change
   ascending_change test f same [] u = tt
@@ -123,7 +126,8 @@ module _ {A : Type 0} (number : A → ℕ) where
     length_insert [] = refl
     length_insert (z ∷ zs) = length_step z zs (higher z) (length_insert zs)
 
-    insert_step : (z : A) (zs : List A) (t : Bool) → higher z ≡ t → (number z ≡ number x → ⊥) → Above (number z) zs → Ascending number zs
+    insert_step : (z : A) (zs : List A) (t : Bool) → higher z ≡ t → (number z ≡ number x → ⊥) → Above (number z) zs
+        → Ascending number zs
         → Ascending number (insert_by number x zs) → Ascending number (cond t (x ∷ z ∷ zs) (z ∷ insert_by number x zs))
     unfolding Ascending
     insert_step z zs true e ne h u ih =
@@ -134,23 +138,29 @@ module _ {A : Type 0} (number : A → ℕ) where
         (λ y m. ⊎_elim (λ q. omega (arith, ap number q)) (λ k. h y k) (inserted_from zs y m), ih)
 
     -- one with a free number, put in its place
-    pub ascending_insert : (xs : List A) → Ascending number xs → Free number (number x) xs → Ascending number (insert_by number x xs)
+    pub ascending_insert : (xs : List A) → Ascending number xs → Free number (number x) xs
+        → Ascending number (insert_by number x xs)
     unfolding Ascending insert_by
     ascending_insert [] u free = (λ y m. elim m [ ], tt)
     ascending_insert (z ∷ zs) u free =
-        insert_step z zs (higher z) refl (eqb-false (number z) (number x) (or_no_l (numbered number (number x) z) (any (numbered number (number x)) zs) free))
+        insert_step z zs (higher z) refl
+        (eqb-false (number z) (number x)
+        (or_no_l (numbered number (number x) z) (any (numbered number (number x)) zs) free))
         u.0 u.1
         (ascending_insert zs u.1 (or_no_r (numbered number (number x) z) (any (numbered number (number x)) zs) free))
 
     -- ---- its place, looked for from the front
 
-    behind_step : (y z : A) (zs : List A) (t : Bool) → (t ≡ false → insert_by number x (zs ++ (y ∷ [])) ≡ insert_by number x zs ++ (y ∷ []))
-        → cond t (x ∷ z ∷ (zs ++ (y ∷ []))) (z ∷ insert_by number x (zs ++ (y ∷ []))) ≡ (cond t (x ∷ z ∷ zs) (z ∷ insert_by number x zs)) ++ (y ∷ [])
+    behind_step : (y z : A) (zs : List A) (t : Bool)
+        → (t ≡ false → insert_by number x (zs ++ (y ∷ [])) ≡ insert_by number x zs ++ (y ∷ []))
+        → cond t (x ∷ z ∷ (zs ++ (y ∷ []))) (z ∷ insert_by number x (zs ++ (y ∷ [])))
+        ≡ (cond t (x ∷ z ∷ zs) (z ∷ insert_by number x zs)) ++ (y ∷ [])
     behind_step y z zs true ih = refl
     behind_step y z zs false ih = ap (λ (l : List A). z ∷ l) (ih refl)
 
     -- where y or one before it has a higher number, y stays the last
-    pub insert_behind : (xs : List A) (y : A) → any higher (xs ++ (y ∷ [])) ≡ true → insert_by number x (xs ++ (y ∷ [])) ≡ insert_by number x xs ++ (y ∷ [])
+    pub insert_behind : (xs : List A) (y : A) → any higher (xs ++ (y ∷ [])) ≡ true
+        → insert_by number x (xs ++ (y ∷ [])) ≡ insert_by number x xs ++ (y ∷ [])
     unfolding insert_by
     insert_behind [] y h = first (higher y) h
       where
@@ -164,4 +174,5 @@ module _ {A : Type 0} (number : A → ℕ) where
     unfolding insert_by
     insert_last [] h = refl
     insert_last (z ∷ zs) h =
-        rw (or_no_l (higher z) (any higher zs) h) (ap (λ (l : List A). z ∷ l) (insert_last zs (or_no_r (higher z) (any higher zs) h)))
+        rw (or_no_l (higher z) (any higher zs) h)
+        (ap (λ (l : List A). z ∷ l) (insert_last zs (or_no_r (higher z) (any higher zs) h)))

@@ -69,11 +69,13 @@ module _ {A : Type 0} where
   pub last_none : (test : A → Bool) (d : A) (xs : List A) → any test xs ≡ false → last test d xs ≡ d
   unfolding last
   last_none test d [] h = refl
-  last_none test d (y ∷ ys) h = rw (or_no_l (test y) (any test ys) h) (last_none test d ys (or_no_r (test y) (any test ys) h))
+  last_none test d (y ∷ ys) h =
+      rw (or_no_l (test y) (any test ys) h) (last_none test d ys (or_no_r (test y) (any test ys) h))
 
   -- ---- those that pass
 
-  kept_step : (test : A → Bool) (x y : A) (ys : List A) → (Member x (keep test ys) → Passes test ys x) → (t : Bool) → test y ≡ t
+  kept_step : (test : A → Bool) (x y : A) (ys : List A) → (Member x (keep test ys) → Passes test ys x)
+      → (t : Bool) → test y ≡ t
       → Member x (cond t (y ∷ keep test ys) (keep test ys)) → Passes test (y ∷ ys) x
   kept_step test x y ys ih true e m =
       ⊎_elim (λ q. record { member = Memᴰ.head q; passes = ap test q ∙ e })
@@ -85,7 +87,8 @@ module _ {A : Type 0} where
   kept test [] x m = elim m [ ]
   kept test (y ∷ ys) x m = kept_step test x y ys (kept test ys x) (test y) refl m
 
-  keeps_step : (test : A → Bool) (x y : A) (ys : List A) → (Member x ys → Member x (keep test ys)) → test x ≡ true → (t : Bool) → test y ≡ t
+  keeps_step : (test : A → Bool) (x y : A) (ys : List A) → (Member x ys → Member x (keep test ys)) → test x ≡ true
+      → (t : Bool) → test y ≡ t
       → (x ≡ y) ⊎ Member x ys → Member x (cond t (y ∷ keep test ys) (keep test ys))
   keeps_step test x y ys ih h true e (inl q) = Memᴰ.head q
   keeps_step test x y ys ih h true e (inr m) = Memᴰ.tail (ih m)
@@ -112,7 +115,8 @@ module _ {A : Type 0} where
   changed test f x = cond (test x) (f x) x
 
   -- what stands in the changed list came of an element that was there
-  pub changes_from : (test : A → Bool) (f : A → A) (xs : List A) (y : A) → Member y (change test f xs) → (x : A) × Member x xs × (y ≡ changed test f x)
+  pub changes_from : (test : A → Bool) (f : A → A) (xs : List A) (y : A) → Member y (change test f xs)
+      → (x : A) × Member x xs × (y ≡ changed test f x)
   unfolding change
   changes_from test f [] y m = elim m [ ]
   changes_from test f (x ∷ xs) y m =
@@ -120,13 +124,15 @@ module _ {A : Type 0} where
       (λ k. let (o, mo, e) = changes_from test f xs y k in (o, Memᴰ.tail mo, e))
       (Memᴰ.cases_cons m)
 
-  pub changes_to : (test : A → Bool) (f : A → A) (xs : List A) (x : A) → Member x xs → Member (changed test f x) (change test f xs)
+  pub changes_to : (test : A → Bool) (f : A → A) (xs : List A) (x : A) → Member x xs
+      → Member (changed test f x) (change test f xs)
   unfolding change
   changes_to test f [] x m = elim m [ ]
   changes_to test f (y ∷ ys) x (Memᴰ.head e) = Memᴰ.head (ap (changed test f) e)
   changes_to test f (y ∷ ys) x (Memᴰ.tail m) = Memᴰ.tail (changes_to test f ys x m)
 
-  each_step : (P : A → Type 0) (f : A → A) (x : A) (t : Bool) → (t ≡ false → P x) → (t ≡ true → P (f x)) → P (cond t (f x) x)
+  each_step : (P : A → Type 0) (f : A → A) (x : A) (t : Bool) → (t ≡ false → P x) → (t ≡ true → P (f x))
+      → P (cond t (f x) x)
   each_step P f x true old new = new refl
   each_step P f x false old new = old refl
 
@@ -139,7 +145,8 @@ module _ {A : Type 0} where
       let (x, mx, e) = changes_from test f xs y m in
       subst P (sym e) (each_step P f x (test x) (old x mx) (new x mx))
 
-  pub change_append : (test : A → Bool) (f : A → A) (xs ys : List A) → change test f (xs ++ ys) ≡ change test f xs ++ change test f ys
+  pub change_append : (test : A → Bool) (f : A → A) (xs ys : List A)
+      → change test f (xs ++ ys) ≡ change test f xs ++ change test f ys
   unfolding change
   change_append test f [] ys = refl
   change_append test f (x ∷ xs) ys = ap (λ (l : List A). changed test f x ∷ l) (change_append test f xs ys)
@@ -199,13 +206,15 @@ pub below_some : (n : ℕ) (test : ℕ → Bool) (p : ℕ) → p < n → test p 
 below_some n test p l h = any_yes test (below n) p (below_has n p l) h
 
 -- they stand from the greatest on: the first that passes is p where p does and none above it
-pub first_below : (n d : ℕ) (test : ℕ → Bool) (p : ℕ) → p < n → test p ≡ true → ((q : ℕ) → p < q → q < n → test q ≡ false)
+pub first_below : (n d : ℕ) (test : ℕ → Bool) (p : ℕ) → p < n → test p ≡ true
+    → ((q : ℕ) → p < q → q < n → test q ≡ false)
     → first test d (below n) ≡ p
 unfolding first below
 first_below zero d test p l h none = absurd (omega arith)
 first_below (suc n) d test p l h none =
     ⊎_elim (λ (e : p ≡ n). rw (← e, h))
-    (λ (g : p < n). rw (none n g (omega arith)) (first_below n d test p g h (λ q a b. none q a (omega arith)))) (eq-or-lt_of_le (le_of_suc-le-suc l))
+    (λ (g : p < n). rw (none n g (omega arith)) (first_below n d test p g h (λ q a b. none q a (omega arith))))
+    (eq-or-lt_of_le (le_of_suc-le-suc l))
 
 -- and the last that passes is p where p does and none below it
 pub last-below : (n d : ℕ) (test : ℕ → Bool) (p : ℕ) → p < n → test p ≡ true → ((q : ℕ) → q < p → test q ≡ false)

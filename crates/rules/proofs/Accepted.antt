@@ -41,7 +41,8 @@ Ranges b (Some (Passed t)) = Unit {0}
 Ranges b (Some (Term n day time length)) = (is_day day ≡ true) × (is_time time ≡ true)
 Ranges b (Some (Join twa toa officer distance)) = Unit {0}
 Ranges b (Some (BookOut g paper)) = (g.0 < length b.gates) × (1 ≤ paper.0)
-Ranges b (Some (BookIn g paper certified new)) = (g.0 < length b.gates) × (1 ≤ paper.0) × (certified ≡ false → 1 ≤ new.0)
+Ranges b (Some (BookIn g paper certified new)) =
+    (g.0 < length b.gates) × (1 ≤ paper.0) × (certified ≡ false → 1 ≤ new.0)
 
 pub record Accepted (b : Board) (s : Seven) (c : Option Call) : Type 0 where
   pub ranges : Ranges b c
@@ -54,7 +55,8 @@ EntryRanges b s e = in_form b.portions (length b.gates) e.form s ≡ true → Ra
 
 -- of BOOK IN with certified 0, the new paper has a number
 new-paper : (paper certified new : ℕ) → is_new_paper paper certified new ≡ true → eqb certified 1 ≡ false → 1 ≤ new
-new-paper paper certified new h e = let k : (between 1 9999 new && not (eqb new paper)) ≡ true = rw e at h in search (told, leb-true, k)
+new-paper paper certified new h e =
+    let k : (between 1 9999 new && not (eqb new paper)) ≡ true = rw e at h in search (told, leb-true, k)
 
 entry_ranges : (b : Board) (s : Seven) (n : ℕ) → is_call n ≡ true → EntryRanges b s (entry_of n)
 unfolding entry_of is_call calls in_form in_range
@@ -65,7 +67,8 @@ entry_ranges b s (suc n) c =
     n (let l : suc n ≤ 17 = search (told, leb-true, c) in omega arith)
 
 -- a call with a number that a call has and fields in their ranges
-pub in_ranges_lem : (b : Board) (s : Seven) → is_call s.call ≡ true → in_ranges b.portions (length b.gates) s ≡ true → Ranges b (named s)
+pub in_ranges_lem : (b : Board) (s : Seven) → is_call s.call ≡ true → in_ranges b.portions (length b.gates) s ≡ true
+    → Ranges b (named s)
 unfolding named in_ranges
 in_ranges_lem b s c h = entry_ranges b s s.call c (search (told, h))
 
@@ -76,7 +79,8 @@ accepted b s room e =
     let P = b.portions in
     let G = length b.gates in
     let numbered : not (is_call s.call) ≡ false = none (2 when not (is_call s.call)) (Memᴰ.tail (Memᴰ.head refl)) in
-    let formed : not (in_ranges P G s) ≡ false = none (3 when not (in_ranges P G s)) (Memᴰ.tail (Memᴰ.tail (Memᴰ.head refl))) in
+    let formed : not (in_ranges P G s) ≡ false =
+    none (3 when not (in_ranges P G s)) (Memᴰ.tail (Memᴰ.tail (Memᴰ.head refl))) in
     record {
       ranges = in_ranges_lem b s (not-false (is_call s.call) numbered) (not-false (in_ranges P G s) formed);
       ok = λ n. at_none n (own b s (named s)) (λ r m. none r (Memᴰ.tail (Memᴰ.tail (Memᴰ.tail (Memᴰ.tail m)))));

@@ -52,8 +52,12 @@ module _ (b : Board) (o : Once b) (s : Seven) (room n : ℕ) (l : live b n ≡ t
       let (a, m, k) = authority_stays (made ∷ []) b o (authority b n) there.0 (or_from _ false not-ended refl) in
       let is : is_authority n a ≡ true = eq-eqb (authority_no a) n (k.number ∙ number) in
       let held : live (after b s room) n ≡ true = any_yes (is_authority n) (after b s room).authorities a m is in
-      let same : authority (after b s room) n ≡ a = the_named (after b s room) (once_after b s room o) n a held m is in
-      (held, ap (λ (x : Authority). x.agreed.0) same ∙ ap (λ (x : AuthorityNo). x.0) (k.agreement (or_from _ false not-agreed refl)))
+      let same : authority (after b s room) n ≡ a =
+      the_named (after b s room) (once_after b s room o) n a held m is in (
+        held,
+        ap (λ (x : Authority). x.agreed.0) same
+            ∙ ap (λ (x : AuthorityNo). x.0) (k.agreement (or_from _ false not-agreed refl)),
+      )
 
   -- "HAND OVER, CLEAR, REOCCUPY [..] keep the recorded number": of the one that they name, and of any other
   pub hand_over_keeps : (m : AuthorityNo) (out into : ℕ) → named s ≡ Some (HandOver m out into) → KeepsNumber
@@ -69,18 +73,22 @@ module _ (b : Board) (o : Once b) (s : Seven) (room n : ℕ) (l : live b n ≡ t
   reoccupy_keeps m officer e = call_keeps (ap (ends n) e) (ap (agrees n) e)
 
   -- "and the other authority's ending": whichever other it is
-  pub withdraw_keeps : (m : AuthorityNo) (officer : ℕ) → named s ≡ Some (Withdraw m officer) → (n ≡ m.0 → ⊥) → KeepsNumber
+  pub withdraw_keeps : (m : AuthorityNo) (officer : ℕ) → named s ≡ Some (Withdraw m officer) → (n ≡ m.0 → ⊥)
+      → KeepsNumber
   unfolding ends agrees
   withdraw_keeps m officer e other = call_keeps (ap (ends n) e ∙ ne_eqb n m.0 other) (ap (agrees n) e)
 
-  pub fulfil_keeps : (m : AuthorityNo) (officer assurances : ℕ) → named s ≡ Some (Fulfil m officer assurances) → (n ≡ m.0 → ⊥) → KeepsNumber
+  pub fulfil_keeps : (m : AuthorityNo) (officer assurances : ℕ) → named s ≡ Some (Fulfil m officer assurances)
+      → (n ≡ m.0 → ⊥) → KeepsNumber
   unfolding ends agrees
   fulfil_keeps m officer assurances e other = call_keeps (ap (ends n) e ∙ ne_eqb n m.0 other) (ap (agrees n) e)
 
   -- of the new one too: after CONTINUE it has its own, and not old's
-  pub continue_keeps : (old new : AuthorityNo) (officer_old officer_new : ℕ) → named s ≡ Some (Continue old new officer_old officer_new) → (n ≡ old.0 → ⊥) → KeepsNumber
+  pub continue_keeps : (old new : AuthorityNo) (officer_old officer_new : ℕ)
+      → named s ≡ Some (Continue old new officer_old officer_new) → (n ≡ old.0 → ⊥) → KeepsNumber
   unfolding ends agrees
-  continue_keeps old new officer_old officer_new e other = call_keeps (ap (ends n) e ∙ ne_eqb n old.0 other) (ap (agrees n) e)
+  continue_keeps old new officer_old officer_new e other =
+      call_keeps (ap (ends n) e ∙ ne_eqb n old.0 other) (ap (agrees n) e)
 
 -- ---- after every list of calls
 
@@ -92,7 +100,8 @@ pub record Recorded (A : ℕ → Reckoned) (a : Authority) : Type 0 where
 
 -- THEOREM: on a board opened from any plan text, after any list of calls, the number that each live authority has
 -- recorded is the one that its last AGREE or JOIN names, 0 for none: read off the calls and answers alone
-pub list_agreements : (text : List ℕ) (ms : List Made) (a : Authority) → Member a (final (open_board text) ms).authorities
+pub list_agreements : (text : List ℕ) (ms : List Made) (a : Authority)
+    → Member a (final (open_board text) ms).authorities
     → Recorded (reckoned (open_board text).gates start (trace (open_board text) ms)).authority a
 list_agreements text ms a m =
     let F = list_follows text ms in
@@ -102,5 +111,6 @@ list_agreements text ms a m =
 pub list_lpas : (text : List ℕ) (ms : List Made) → NoneOfLpas (final (open_board text) ms).authorities
 list_lpas text ms a m e =
     let h = (list_follows text ms).held a m in
-    let x : Reckoned = (reckoned (open_board text).gates start (trace (open_board text) ms)).authority (authority_no a) in
+    let x : Reckoned =
+    (reckoned (open_board text).gates start (trace (open_board text) ms)).authority (authority_no a) in
     sym h.agreement ∙ lpa_agreement x (h.kind ∙ lpa_kind a.kind e)

@@ -90,11 +90,13 @@ above k (q ∷ rs) h r m =
     (λ t. omega (arith, above q.number rs (and_r (ltb k q.number) (ascends q.number rs) h) r t)) (Memᴰ.cases_cons m)
 above k [] h r m = elim m [ ]
 
-lowest_step : (k : ℕ) (q : Refusal) (rs : List Refusal) → k < q.number → ((r : Refusal) → Member r rs → q.number < r.number)
+lowest_step : (k : ℕ) (q : Refusal) (rs : List Refusal) → k < q.number
+    → ((r : Refusal) → Member r rs → q.number < r.number)
     → Lowest rs (lowest rs) → (t : Bool) → q.holds ≡ t → Lowest (q ∷ rs) (cond t q.number (lowest rs))
 lowest_step k q rs h later ih true e =
     some {n = q.number} (omega arith) (record { refusal = q; member = Memᴰ.head refl; number = refl; holds = e })
-    (λ r m l. ⊎_elim (λ i. absurd (omega (arith, ap (λ (x : Refusal). x.number) i))) (λ t. absurd (omega (arith, later r t))) (Memᴰ.cases_cons m))
+    (λ r m l. ⊎_elim (λ i. absurd (omega (arith, ap (λ (x : Refusal). x.number) i)))
+    (λ t. absurd (omega (arith, later r t))) (Memᴰ.cases_cons m))
 lowest_step k q rs h later ih false e = more ih
   where
     more : {n : ℕ} → Lowest rs n → Lowest (q ∷ rs) n
@@ -139,7 +141,8 @@ is_refused : {rs : List Refusal} {m n : ℕ} → Lowest rs m → Refused n rs �
 is_refused (none f) r = absurd (false≢true (sym (f r.holds.refusal r.holds.member) ∙ r.holds.holds))
 is_refused {m = m} {n = n} (some q w f) r =
     let not-less : m < n → ⊥ = λ l. false≢true (sym (r.lower w.refusal w.member (omega (arith, w.number))) ∙ w.holds) in
-    let not_more : n < m → ⊥ = λ l. false≢true (sym (f r.holds.refusal r.holds.member (omega (arith, r.holds.number))) ∙ r.holds.holds) in
+    let not_more : n < m → ⊥ =
+    λ l. false≢true (sym (f r.holds.refusal r.holds.member (omega (arith, r.holds.number))) ∙ r.holds.holds) in
     omega arith
 
 -- THEOREM: accepted if and only if every condition is false
@@ -150,7 +153,8 @@ pub none_accepted : (b : Board) (s : Seven) (room : ℕ) → NoneHolds (conditio
 none_accepted b s room h = is_zero (answer_lowest b s room) h
 
 -- THEOREM: refused with n if and only if condition n holds and none lower does
-pub refused_lowest : (b : Board) (s : Seven) (room n : ℕ) → answer b s room ≡ n → 0 < n → Refused n (conditions b s room)
+pub refused_lowest : (b : Board) (s : Seven) (room n : ℕ) → answer b s room ≡ n → 0 < n
+    → Refused n (conditions b s room)
 refused_lowest b s room n e p = refused_by (answer_lowest b s room) e p
 
 pub lowest_refused : (b : Board) (s : Seven) (room n : ℕ) → Refused n (conditions b s room) → answer b s room ≡ n
@@ -176,7 +180,8 @@ pub short_line : (s : Seven) (a n : ℕ) (buffer : List ℕ) → length buffer <
 unfolding line_after
 short_line s a n buffer h = rw (lt-ltb (length buffer) 55 h)
 
-pub long_line : (s : Seven) (a n : ℕ) (buffer : List ℕ) → 55 ≤ length buffer → line_after s a n buffer ≡ journal_line s a n ++ drop 55 buffer
+pub long_line : (s : Seven) (a n : ℕ) (buffer : List ℕ) → 55 ≤ length buffer
+    → line_after s a n buffer ≡ journal_line s a n ++ drop 55 buffer
 unfolding line_after
 long_line s a n buffer h = rw (le-ltb (length buffer) 55 h)
 
@@ -213,7 +218,8 @@ unfolding ascends lowest
 lowest_most n [] h = omega arith
 lowest_most n (r ∷ rs) h =
     let rest = and_r (ltb n r.number) (ascends r.number rs) h in
-    cond_both r.holds r.number (lowest rs) (λ n. n ≤ greatest) (λ e. below_greatest r.number rs rest) (λ e. lowest_most r.number rs rest)
+    cond_both r.holds r.number (lowest rs) (λ n. n ≤ greatest) (λ e. below_greatest r.number rs rest)
+    (λ e. lowest_most r.number rs rest)
 
 pub answer_most : (b : Board) (s : Seven) (room : ℕ) → answer b s room ≤ greatest
 unfolding answer

@@ -84,15 +84,19 @@ module _ (b : Board) (g : ℕ) (x : Booking) where
       → Booked (with_bookings (set b.bookings g x) b)
   unfolding can_be_blocked
   booked_set B l plain stays =
-      let here : is_out (with_bookings (set b.bookings g x) b) g ≡ not (eqb x.paper.0 0) = out_here (omega (arith, B.places)) in
+      let here : is_out (with_bookings (set b.bookings g x) b) g ≡ not (eqb x.paper.0 0) =
+      out_here (omega (arith, B.places)) in
       record {
         places = length-set b.bookings g x ∙ B.places;
         plain =
-            each (λ (h : ℕ). is_out (with_bookings (set b.bookings g x) b) h ≡ true → is_plain (gate_at b.gates h) ≡ true) g
+            each (λ (h : ℕ). is_out (with_bookings (set b.bookings g x) b) h ≡ true
+            → is_plain (gate_at b.gates h) ≡ true) g
             (λ e. plain) (λ h ne e. B.plain h (sym (out_other h ne) ∙ e));
         can =
-            each (λ (h : ℕ). has h b.blocks ≡ true → (not (is_plain (gate_at b.gates h)) || is_out (with_bookings (set b.bookings g x) b) h) ≡ true) g
-            (λ e. or_right (not (is_plain (gate_at b.gates g))) (is_out (with_bookings (set b.bookings g x) b) g) (here ∙ stays e))
+            each (λ (h : ℕ). has h b.blocks ≡ true
+            → (not (is_plain (gate_at b.gates h)) || is_out (with_bookings (set b.bookings g x) b) h) ≡ true) g
+            (λ e. or_right (not (is_plain (gate_at b.gates g))) (is_out (with_bookings (set b.bookings g x) b) g)
+            (here ∙ stays e))
             (λ h ne e. rw (out_other h ne) (B.can h e));
       }
 
@@ -104,7 +108,9 @@ unfolding is_out can_be_blocked
 booked_block b B g ok = record {
   places = B.places;
   plain = B.plain;
-  can = λ h e. ⊎_elim (λ (q : h ≡ g). subst (λ (k : ℕ). can_be_blocked b k ≡ true) (sym q) ok) (B.can h) (in_insert g b.blocks h e);
+  can =
+      λ h e. ⊎_elim (λ (q : h ≡ g). subst (λ (k : ℕ). can_be_blocked b k ≡ true) (sym q) ok) (B.can h)
+      (in_insert g b.blocks h e);
 }
 
 booked_unblock : (b : Board) → Booked b → (g : ℕ) → Booked (with_blocks (remove g b.blocks) b)
@@ -121,7 +127,8 @@ some_paper n h = ap not (ne_eqb n 0 (λ e. omega arith))
 is_out_lem : (b : Board) (g paper : ℕ) → 1 ≤ paper → not_booked b g paper ≡ false → is_out b g ≡ true
 unfolding not_booked is_out
 is_out_lem b g paper h e =
-    let same : (booking_at b.bookings g).paper.0 ≡ paper = eqb-true (booking_at b.bookings g).paper.0 paper (not-false _ e) in
+    let same : (booking_at b.bookings g).paper.0 ≡ paper =
+    eqb-true (booking_at b.bookings g).paper.0 paper (not-false _ e) in
     some_paper (booking_at b.bookings g).paper.0 (omega arith)
 
 booked_effect : (b : Board) → Booked b → (s : Seven) (c : Option Call) → Accepted b s c → Booked (effect b c)
@@ -146,9 +153,11 @@ booked_effect b B s (Some (BookOut g paper)) k =
     booked_set b g.0 (booked_out paper) B k.ranges.0 (not-false _ (k.ok 10)) (λ e. some_paper paper.0 k.ranges.1)
 -- 25: a gate whose block is on is not restored
 booked_effect b B s (Some (BookIn g paper true new)) k =
-    booked_set b g.0 no_booking B k.ranges.0 (B.plain g.0 (is_out_lem b g.0 paper.0 k.ranges.1 (k.ok 5))) (λ e. clash e (k.ok 25))
+    booked_set b g.0 no_booking B k.ranges.0 (B.plain g.0 (is_out_lem b g.0 paper.0 k.ranges.1 (k.ok 5)))
+    (λ e. clash e (k.ok 25))
 booked_effect b B s (Some (BookIn g paper false new)) k =
-    booked_set b g.0 (booked_in paper false new) B k.ranges.0 (B.plain g.0 (is_out_lem b g.0 paper.0 k.ranges.1 (k.ok 5)))
+    booked_set b g.0 (booked_in paper false new) B k.ranges.0
+    (B.plain g.0 (is_out_lem b g.0 paper.0 k.ranges.1 (k.ok 5)))
     (λ e. some_paper new.0 (k.ranges.2 refl))
 
 booked_step : (b : Board) (s : Seven) (room : ℕ) → Booked b → (z : Bool) → eqb (answer b s room) 0 ≡ z
@@ -184,7 +193,9 @@ booked_opened portions gates = record {
 -- THEOREM: on a board opened from any plan text, after any list of calls, each gate has a place for its booking, only
 -- plain automatic signals are out, and each gate whose block is on can be blocked
 pub list_booked : (text : List ℕ) (ms : List Made) → Booked (final (open_board text) ms)
-list_booked text ms = let o = fresh text in booked_final (open_board text) ms (subst Booked (sym o.is_opened) (booked_opened o.portions o.gates))
+list_booked text ms =
+    let o = fresh text in
+    booked_final (open_board text) ms (subst Booked (sym o.is_opened) (booked_opened o.portions o.gates))
 
 -- ---- limits in force stay protected
 
@@ -210,7 +221,8 @@ module _ (text : List ℕ) (ms : List Made) where
   -- IN among them, a gate that an authority in force needs is blocked, and can be blocked
   pub limits_protected : (n g : ℕ) → NeededBy gates A n g → (has g b.blocks ≡ true) × (can_be_blocked b g ≡ true)
   limits_protected n g h =
-      let on : has g b.blocks ≡ true = ((list_follows text ms).blocked g ((demand_3 text ms).protected n g h.force h.gate h.into h.from)).1 in
+      let on : has g b.blocks ≡ true =
+      ((list_follows text ms).blocked g ((demand_3 text ms).protected n g h.force h.gate h.into h.from)).1 in
       (on, (list_booked text ms).can g on)
 
   -- THEOREM, order 6: a needed gate that is blocked can't be restored: after any list of calls no BOOK IN that would
@@ -229,9 +241,11 @@ module _ (b : Board) (B : Booked b) (s : Seven) where
   pub books_out : (g : GateNo) (paper : PaperNo) → Accepted b s (Some (BookOut g paper))
       → booking_at (effect b (Some (BookOut g paper))).bookings g.0 ≡ booked_out paper
   unfolding effect
-  books_out g paper k = get_or-set_same b.bookings g.0 (booked_out paper) no_booking (omega (arith, B.places, k.ranges.0))
+  books_out g paper k =
+      get_or-set_same b.bookings g.0 (booked_out paper) no_booking (omega (arith, B.places, k.ranges.0))
 
-  pub books_in : (g : GateNo) (paper : PaperNo) (certified : Bool) (new : PaperNo) → Accepted b s (Some (BookIn g paper certified new))
+  pub books_in : (g : GateNo) (paper : PaperNo) (certified : Bool) (new : PaperNo)
+      → Accepted b s (Some (BookIn g paper certified new))
       → booking_at (effect b (Some (BookIn g paper certified new))).bookings g.0 ≡ booked_in paper certified new
   unfolding effect
   books_in g paper certified new k =
@@ -242,4 +256,5 @@ module _ (b : Board) (B : Booked b) (s : Seven) where
   not_out g paper h e = ⊎_elim (λ t. t) (λ f. clash (is_out_lem b g paper h f) e) (truth (not_booked b g paper))
 
   pub not_plain : (g paper : ℕ) → 1 ≤ paper → is_plain (gate_at b.gates g) ≡ false → not_booked b g paper ≡ true
-  not_plain g paper h e = ⊎_elim (λ t. t) (λ f. clash (B.plain g (is_out_lem b g paper h f)) e) (truth (not_booked b g paper))
+  not_plain g paper h e =
+      ⊎_elim (λ t. t) (λ f. clash (B.plain g (is_out_lem b g paper h f)) e) (truth (not_booked b g paper))

@@ -35,7 +35,16 @@ pub record Smaller (y' y : Position) : Type 0 where
   pub rear : (y'.rear ≡ y.rear) ⊎ (y'.rear ≡ y.head)
 
 pub quiet_same : (x : Reckoned) → x.is_in_force ≡ true → Quieter x x
-quiet_same x h = record { force = h; kind = refl; first = refl; last = refl; since = refl; agreed = refl; joined = refl; site = λ w. w }
+quiet_same x h = record {
+  force = h;
+  kind = refl;
+  first = refl;
+  last = refl;
+  since = refl;
+  agreed = refl;
+  joined = refl;
+  site = λ w. w;
+}
 
 pub small_same : (y : Position) → y.on_board ≡ true → Smaller y y
 small_same y h = record { on_board = h; head = refl; under = refl; rear = inl refl }
@@ -55,7 +64,8 @@ module _ (A' A : ℕ → Reckoned) (q : (n : ℕ) → Forced A' n → Quieter (A
       ⊎_map (agreed_back (q m fm) (q n fn)) (agreed_back (q n fn) (q m fm))
       (s m n p ne (q m fm).force (q n fn).force (in_along (q m fm) refl im) (in_along (q n fn) refl jn))
 
-  protected_less : (gates : List Gate) (B' B : ℕ → Bool) → ((g : ℕ) → B g ≡ true → B' g ≡ true) → Protected gates A B → Protected gates A' B'
+  protected_less : (gates : List Gate) (B' B : ℕ → Bool) → ((g : ℕ) → B g ≡ true → B' g ≡ true) → Protected gates A B
+      → Protected gates A' B'
   protected_less gates B' B h s n g fn l i o =
       h g (s n g (q n fn).force l (in_along (q n fn) refl i) (λ j. o (omega (arith, q n fn))))
 
@@ -63,7 +73,8 @@ module _ (A' A : ℕ → Reckoned) (q : (n : ℕ) → Forced A' n → Quieter (A
     piloted_less : Piloted A T → Piloted A' T'
     piloted_less s t n on fn x i =
         (w t on).under
-        ∙ s t n (w t on).on_board (q n fn).force (subst (λ (k : Kind). exclusive k ≡ true) (q n fn).kind x) (in_along (q n fn) (w t on).head i)
+        ∙ s t n (w t on).on_board (q n fn).force (subst (λ (k : Kind). exclusive k ≡ true) (q n fn).kind x)
+        (in_along (q n fn) (w t on).head i)
 
     untouched_less : Untouched A T → Untouched A' T'
     untouched_less s t n on fn k v =
@@ -91,7 +102,8 @@ pub safe_quieter : (gates : List Gate) (r : Reckoning) → Safe gates r → (req
     → Safe gates (reckoned_as r requests r.grants n x)
 safe_quieter gates r S requests n x h =
     safe_less gates (reckoned_as r requests r.grants n x) r
-    (put_all (λ (m : ℕ) (y : Reckoned). y.is_in_force ≡ true → Quieter y (r.authority m)) n x r.authority h (λ m ne f. quiet_same (r.authority m) f))
+    (put_all (λ (m : ℕ) (y : Reckoned). y.is_in_force ≡ true → Quieter y (r.authority m)) n x r.authority h
+    (λ m ne f. quiet_same (r.authority m) f))
     (λ t on. small_same (r.train t) on) (λ g k. k) S
 
 -- ---- one authority reckoned anew, perhaps with more claim
@@ -100,10 +112,12 @@ safe_quieter gates r S requests n x h =
 pub record New (gates : List Gate) (r : Reckoning) (n : ℕ) (x : Reckoned) : Type 0 where
   pub apart : (m p : ℕ) → (m ≡ n → ⊥) → Forced r.authority m → In (r.authority m) p → In x p
       → Agreed (r.authority m) m x ⊎ Agreed x n (r.authority m)
-  pub piloted : (t : ℕ) → (r.train t).on_board ≡ true → exclusive x.kind ≡ true → In x (r.train t).head → (r.train t).under ≡ n
+  pub piloted : (t : ℕ) → (r.train t).on_board ≡ true → exclusive x.kind ≡ true → In x (r.train t).head
+      → (r.train t).under ≡ n
   pub untouched : (t : ℕ) → (r.train t).on_board ≡ true → x.kind ≡ Twa → x.has_workers_on ≡ true
       → (In x (r.train t).head → ⊥) × (In x (r.train t).rear → ⊥)
-  pub protected : (g : ℕ) → g < length gates → In x (gate_at gates g).to → (In x (gate_at gates g).from → ⊥) → r.blocked g ≡ true
+  pub protected : (g : ℕ) → g < length gates → In x (gate_at gates g).to → (In x (gate_at gates g).from → ⊥)
+      → r.blocked g ≡ true
 
 module _ (gates : List Gate) (r : Reckoning) (n : ℕ) (x : Reckoned) (N : New gates r n x) (S : Safe gates r) where
   abbrev A : ℕ → Reckoned
@@ -111,12 +125,14 @@ module _ (gates : List Gate) (r : Reckoning) (n : ℕ) (x : Reckoned) (N : New g
 
   -- two in force at a portion p
   Both : ℕ → ℕ → ℕ → Reckoned → Reckoned → Type 0
-  Both p m k u v = (m ≡ k → ⊥) → u.is_in_force ≡ true → v.is_in_force ≡ true → In u p → In v p → Agreed u m v ⊎ Agreed v k u
+  Both p m k u v =
+      (m ≡ k → ⊥) → u.is_in_force ≡ true → v.is_in_force ≡ true → In u p → In v p → Agreed u m v ⊎ Agreed v k u
 
   both_new : (p k : ℕ) → Both p n k x (put n x A k)
   unfolding Both
   both_new p k ne =
-      subst (λ (v : Reckoned). x.is_in_force ≡ true → v.is_in_force ≡ true → In x p → In v p → Agreed x n v ⊎ Agreed v k x)
+      subst (λ (v : Reckoned). x.is_in_force ≡ true → v.is_in_force ≡ true → In x p → In v p
+      → Agreed x n v ⊎ Agreed v k x)
       (sym (put_other n x A k (λ e. ne (sym e))))
       (λ fx fk ix ik. ⊎_swap (N.apart k p (λ e. ne (sym e)) fk ik ix))
 
@@ -128,26 +144,30 @@ module _ (gates : List Gate) (r : Reckoning) (n : ℕ) (x : Reckoned) (N : New g
 
   apart_put : Apart (put n x A)
   unfolding Both
-  apart_put m k p = put_all (λ (m : ℕ) (u : Reckoned). (k : ℕ) → Both p m k u (put n x A k)) n x A (both_new p) (both_old p) m k
+  apart_put m k p =
+      put_all (λ (m : ℕ) (u : Reckoned). (k : ℕ) → Both p m k u (put n x A k)) n x A (both_new p) (both_old p) m k
 
   pub safe_put : (grants : ℕ) → Safe gates (reckoned_as r r.requests grants n x)
   safe_put grants = record {
     apart = apart_put;
     piloted =
         λ t m on.
-        put_all (λ (m : ℕ) (u : Reckoned). u.is_in_force ≡ true → exclusive u.kind ≡ true → In u (r.train t).head → (r.train t).under ≡ m) n x A
+        put_all (λ (m : ℕ) (u : Reckoned). u.is_in_force ≡ true → exclusive u.kind ≡ true → In u (r.train t).head
+        → (r.train t).under ≡ m) n x A
         (λ f e i. N.piloted t on e i) (λ m ne f e i. S.piloted t m on f e i) m;
     untouched =
         λ t m on.
         put_all
         (λ (m : ℕ) (u : Reckoned).
-        u.is_in_force ≡ true → u.kind ≡ Twa → u.has_workers_on ≡ true → (In u (r.train t).head → ⊥) × (In u (r.train t).rear → ⊥))
+        u.is_in_force ≡ true → u.kind ≡ Twa → u.has_workers_on ≡ true
+        → (In u (r.train t).head → ⊥) × (In u (r.train t).rear → ⊥))
         n x A (λ f k v. N.untouched t on k v) (λ m ne f k v. S.untouched t m on f k v) m;
     protected =
         λ m g.
         put_all
         (λ (m : ℕ) (u : Reckoned).
-        u.is_in_force ≡ true → g < length gates → In u (gate_at gates g).to → (In u (gate_at gates g).from → ⊥) → r.blocked g ≡ true)
+        u.is_in_force ≡ true → g < length gates → In u (gate_at gates g).to → (In u (gate_at gates g).from → ⊥)
+        → r.blocked g ≡ true)
         n x A (λ f. N.protected g) (λ m ne f. S.protected m g f) m;
   }
 

@@ -19,7 +19,18 @@ use Rattle.rules.specs.Board.{Same}
 use Rattle.rules.specs.Step.{Once}
 
 same_authority : (a : Authority) → SameAuthority a a
-same_authority a = record { number = refl; kind = refl; limits = refl; officer = refl; stage = refl; site = refl; agreed = λ t. refl; joined = λ t. refl; start = refl; length = refl }
+same_authority a = record {
+  number = refl;
+  kind = refl;
+  limits = refl;
+  officer = refl;
+  stage = refl;
+  site = refl;
+  agreed = λ t. refl;
+  joined = λ t. refl;
+  start = refl;
+  length = refl;
+}
 
 in_order_refl : (xs : List Authority) → InOrder SameAuthority xs xs
 in_order_refl [] = tt
@@ -77,7 +88,8 @@ in_order_sym (x ∷ xs) [] s = elim s [ ]
 in_order_sym [] [] s = tt
 in_order_sym (x ∷ xs) (y ∷ ys) s = (turn_authority x y s.0, in_order_sym xs ys s.1)
 
-in_order_trans : (xs ys zs : List Authority) → InOrder SameAuthority xs ys → InOrder SameAuthority ys zs → InOrder SameAuthority xs zs
+in_order_trans : (xs ys zs : List Authority) → InOrder SameAuthority xs ys → InOrder SameAuthority ys zs
+    → InOrder SameAuthority xs zs
 in_order_trans [] [] (z ∷ zs) s t = elim t [ ]
 in_order_trans [] (y ∷ ys) zs s t = elim s [ ]
 in_order_trans (x ∷ xs) [] zs s t = elim s [ ]
@@ -150,12 +162,14 @@ same_sets b c s = record {
   last = s.last;
   blocks = s.blocks;
   authorities = in_order_each SameAuthority b.authorities c.authorities s.authorities;
-  authorities' = in_order_each SameAuthority c.authorities b.authorities (in_order_sym b.authorities c.authorities s.authorities);
+  authorities' =
+      in_order_each SameAuthority c.authorities b.authorities (in_order_sym b.authorities c.authorities s.authorities);
   trains = λ t m. (t, subst (Member t) s.trains m, refl);
   trains' = λ t m. (t, subst (Member t) (sym s.trains) m, refl);
 }
 
-module _ {A : Type 0} (number : A → ℕ) (Like : A → A → Type 0) (like-number : (x y : A) → Like x y → number x ≡ number y) where
+module _ {A : Type 0} (number : A → ℕ) (Like : A → A → Type 0)
+    (like-number : (x y : A) → Like x y → number x ≡ number y) where
   -- the first number of an ascending list is the least
   least_first : (x y : A) (xs : List A) → Above number (number x) xs → Member y (x ∷ xs) → number x ≤ number y
   least_first x y xs h m = ⊎_elim (λ e. omega (arith, ap number e)) (λ k. omega (arith, h y k)) (Memᴰ.cases_cons m)
@@ -165,12 +179,15 @@ module _ {A : Type 0} (number : A → ℕ) (Like : A → A → Type 0) (like-num
   first_is x y xs h m e = ⊎_elim (λ q. q) (λ k. absurd (omega (arith, h y k))) (Memᴰ.cases_cons m)
 
   -- without the first of each, where both have the same number
-  tails : (x y : A) (xs ys : List A) → number x ≡ number y → Above number (number x) xs → EachIn Like (x ∷ xs) (y ∷ ys) → EachIn Like xs ys
+  tails : (x y : A) (xs ys : List A) → number x ≡ number y → Above number (number x) xs → EachIn Like (x ∷ xs) (y ∷ ys)
+      → EachIn Like xs ys
   tails x y xs ys e h f z m =
       let (w, mw, l) = f z (Memᴰ.tail m) in
-      ⊎_elim (λ q. absurd (omega (arith, h z m, like-number z w l, ap number q, e))) (λ k. (w, k, l)) (Memᴰ.cases_cons mw)
+      ⊎_elim (λ q. absurd (omega (arith, h z m, like-number z w l, ap number q, e))) (λ k. (w, k, l))
+      (Memᴰ.cases_cons mw)
 
-  each_in_order : (xs ys : List A) → Ascending number xs → Ascending number ys → EachIn Like xs ys → EachIn Like ys xs → InOrder Like xs ys
+  each_in_order : (xs ys : List A) → Ascending number xs → Ascending number ys → EachIn Like xs ys → EachIn Like ys xs
+      → InOrder Like xs ys
   unfolding Ascending
   each_in_order [] [] u v f g = tt
   each_in_order [] (y ∷ ys) u v f g = let (x, m, l) = g y (Memᴰ.head refl) in elim m [ ]
@@ -202,10 +219,12 @@ sets_same b c o p s = record {
   last = s.last;
   blocks = s.blocks;
   authorities =
-      each_in_order authority_no SameAuthority (λ x y l. l.number) b.authorities c.authorities o.authorities p.authorities s.authorities s.authorities';
+      each_in_order authority_no SameAuthority (λ x y l. l.number)
+      b.authorities c.authorities o.authorities p.authorities s.authorities s.authorities';
   trains =
       in_order_equal b.trains c.trains
-      (each_in_order train_no (λ x y. x ≡ y) (λ x y l. ap train_no l) b.trains c.trains o.trains p.trains s.trains s.trains');
+      (each_in_order train_no (λ x y. x ≡ y) (λ x y l. ap train_no l)
+      b.trains c.trains o.trains p.trains s.trains s.trains');
 }
 
 -- ---- nothing is left free (02, order 7)

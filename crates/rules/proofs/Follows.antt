@@ -34,7 +34,8 @@ unfolding put
 put_other n x f m h = rw (ne_eqb m n h)
 
 -- what holds of x at n, and of f elsewhere, holds of f with x at n
-pub put_all : {X : Type 0} (P : ℕ → X → Type 0) (n : ℕ) (x : X) (f : ℕ → X) → P n x → ((m : ℕ) → (m ≡ n → ⊥) → P m (f m)) → (m : ℕ) → P m (put n x f m)
+pub put_all : {X : Type 0} (P : ℕ → X → Type 0) (n : ℕ) (x : X) (f : ℕ → X) → P n x
+    → ((m : ℕ) → (m ≡ n → ⊥) → P m (f m)) → (m : ℕ) → P m (put n x f m)
 put_all {X} P n x f h k m = pick (ℕ_discrete m n)
   where
     pick : Dec (m ≡ n) → P m (put n x f m)
@@ -108,7 +109,8 @@ pub record Follows (b : Board) (r : Reckoning.Reckoning) : Type 0 where
 
 -- ---- what a search finds
 
-pub authority_there : (b : Board) (n : ℕ) → live b n ≡ true → Member (authority b n) b.authorities × (authority_no (authority b n) ≡ n)
+pub authority_there : (b : Board) (n : ℕ) → live b n ≡ true
+    → Member (authority b n) b.authorities × (authority_no (authority b n) ≡ n)
 unfolding live authority
 authority_there b n h =
     let f = first_found (is_authority n) no_authority b.authorities h in
@@ -122,13 +124,16 @@ train_there b n h =
 
 -- ---- one ended, one gone
 
-pub ended_member : (n : ℕ) (xs : List Authority) (a : Authority) → Member a (ended n xs) → Member a xs × (authority_no a ≡ n → ⊥)
+pub ended_member : (n : ℕ) (xs : List Authority) (a : Authority) → Member a (ended n xs)
+    → Member a xs × (authority_no a ≡ n → ⊥)
 ended_member n xs a m =
     let k = kept (is_not_authority n) xs a m in
     (k.member, eqb-false (authority_no a) n (not-true (is_authority n a) k.passes))
 
-pub there_ended : (n : ℕ) (xs : List Authority) (m : ℕ) → (m ≡ n → ⊥) → Taken authority_no xs m → Taken authority_no (ended n xs) m
-there_ended n xs m h = taken_keep authority_no (is_not_authority n) xs m (λ a e. ap not (ne_eqb (authority_no a) n (λ q. h (sym e ∙ q))))
+pub there_ended : (n : ℕ) (xs : List Authority) (m : ℕ) → (m ≡ n → ⊥) → Taken authority_no xs m
+    → Taken authority_no (ended n xs) m
+there_ended n xs m h =
+    taken_keep authority_no (is_not_authority n) xs m (λ a e. ap not (ne_eqb (authority_no a) n (λ q. h (sym e ∙ q))))
 
 pub gone_member : (n : ℕ) (xs : List Train) (t : Train) → Member t (gone n xs) → Member t xs × (train_no t ≡ n → ⊥)
 gone_member n xs t m =
@@ -136,7 +141,8 @@ gone_member n xs t m =
     (k.member, eqb-false (train_no t) n (not-true (is_train n t) k.passes))
 
 pub runs_gone : (n : ℕ) (xs : List Train) (m : ℕ) → (m ≡ n → ⊥) → Taken train_no xs m → Taken train_no (gone n xs) m
-runs_gone n xs m h = taken_keep train_no (is_not_train n) xs m (λ t e. ap not (ne_eqb (train_no t) n (λ q. h (sym e ∙ q))))
+runs_gone n xs m h =
+    taken_keep train_no (is_not_train n) xs m (λ t e. ap not (ne_eqb (train_no t) n (λ q. h (sym e ∙ q))))
 
 -- ---- one authority changed and reckoned anew, its number kept
 
@@ -146,7 +152,8 @@ pub held_amended : (n : ℕ) (g : Authority → Authority) → ((a : Authority) 
     → AllHeld requests A xs → AllHeld requests (put n x A) (amended n g xs)
 held_amended n g same requests x A xs new old =
     change_each (λ (a : Authority). Held requests (put n x A (authority_no a)) a) (is_authority n) g xs
-    (λ a m e. subst (λ (y : Reckoned). Held requests y a) (sym (put_other n x A (authority_no a) (eqb-false (authority_no a) n e))) (old a m))
+    (λ a m e. subst (λ (y : Reckoned). Held requests y a)
+    (sym (put_other n x A (authority_no a) (eqb-false (authority_no a) n e))) (old a m))
     (λ a m e.
     let is : authority_no a ≡ n = eqb-true (authority_no a) n e in
     subst (λ (y : Reckoned). Held requests y (g a)) (sym (ap (put n x A) (same a ∙ is) ∙ put_same n x A))
@@ -154,12 +161,14 @@ held_amended n g same requests x A xs new old =
 
 -- ---- one train changed and reckoned anew, its number kept
 
-pub placed_moved : (n : ℕ) (g : Train → Train) → ((t : Train) → train_no (g t) ≡ train_no t) → (y : Position) (T : ℕ → Position) (ts : List Train)
+pub placed_moved : (n : ℕ) (g : Train → Train) → ((t : Train) → train_no (g t) ≡ train_no t)
+    → (y : Position) (T : ℕ → Position) (ts : List Train)
     → ((t : Train) → Placed (T n) t → Placed y (g t))
     → AllPlaced T ts → AllPlaced (put n y T) (moved n g ts)
 placed_moved n g same y T ts new old =
     change_each (λ (t : Train). Placed (put n y T (train_no t)) t) (is_train n) g ts
-    (λ t m e. subst (λ (z : Position). Placed z t) (sym (put_other n y T (train_no t) (eqb-false (train_no t) n e))) (old t m))
+    (λ t m e. subst (λ (z : Position). Placed z t) (sym (put_other n y T (train_no t) (eqb-false (train_no t) n e)))
+    (old t m))
     (λ t m e.
     let is : train_no t ≡ n = eqb-true (train_no t) n e in
     subst (λ (z : Position). Placed z (g t)) (sym (ap (put n y T) (same t ∙ is) ∙ put_same n y T))
@@ -169,14 +178,21 @@ placed_moved n g same y T ts new old =
 
 -- authority n reckoned as x, with so many REQUESTs and comings into force
 abbrev pub reckoned_as : Reckoning.Reckoning → ℕ → ℕ → ℕ → Reckoned → Reckoning.Reckoning
-reckoned_as r requests grants n x = record { requests = requests; grants = grants; authority = put n x r.authority; train = r.train; blocked = r.blocked }
+reckoned_as r requests grants n x = record {
+  requests = requests;
+  grants = grants;
+  authority = put n x r.authority;
+  train = r.train;
+  blocked = r.blocked;
+}
 
 module _ (b : Board) (r : Reckoning.Reckoning) (F : Follows b r) where
   -- the kind of each is as it was, so an agreement is still of the giver's kind
   rests_put : (n : ℕ) (x : Reckoned) (xs : List Authority) → x.kind ≡ (r.authority n).kind
       → AllRest r.requests r.authority xs → AllRest r.requests (put n x r.authority) xs
   rests_put n x xs e h a m z = (
-    put_all (λ (m : ℕ) (y : Reckoned). y.kind ≡ (r.authority m).kind) n x r.authority e (λ m ne. refl) a.agreed.0 ∙ (h a m z).0,
+    put_all (λ (m : ℕ) (y : Reckoned). y.kind ≡ (r.authority m).kind) n x r.authority e (λ m ne. refl) a.agreed.0
+        ∙ (h a m z).0,
     (h a m z).1,
   )
 
@@ -185,7 +201,8 @@ module _ (b : Board) (r : Reckoning.Reckoning) (F : Follows b r) where
       → ((a : Authority) → authority_no (g a) ≡ authority_no a)
       → x.kind ≡ (r.authority n).kind
       → ((a : Authority) → Held r.requests (r.authority n) a → Held r.requests x (g a))
-      → ((a : Authority) → Member a b.authorities → authority_no a ≡ n → Rests r.requests r.authority (g a).kind (g a).agreed.0)
+      → ((a : Authority) → Member a b.authorities → authority_no a ≡ n
+      → Rests r.requests r.authority (g a).kind (g a).agreed.0)
       → Taken authority_no b.authorities n
       → r.grants ≤ grants
       → (x.is_in_force ≡ true → x.since ≤ grants)
@@ -196,14 +213,16 @@ module _ (b : Board) (r : Reckoning.Reckoning) (F : Follows b r) where
     held = held_amended n g same r.requests x r.authority b.authorities held F.held;
     rests =
         rests_put n x (amended n g b.authorities) kind
-        (change_each (λ (a : Authority). Rests r.requests r.authority a.kind a.agreed.0) (is_authority n) g b.authorities
+        (change_each (λ (a : Authority). Rests r.requests r.authority a.kind a.agreed.0)
+        (is_authority n) g b.authorities
         (λ a m e. F.rests a m) (λ a m e. rests a m (eqb-true (authority_no a) n e)));
     since =
         put_all (λ (m : ℕ) (y : Reckoned). y.is_in_force ≡ true → y.since ≤ grants) n x r.authority since
         (λ m ne f. omega (arith, F.since m f));
     there =
         λ m f. taken_change authority_no (is_authority n) g same b.authorities m
-        (put_all (λ (m : ℕ) (y : Reckoned). y.is_in_force ≡ true → Taken authority_no b.authorities m) n x r.authority (λ f. there) (λ m ne f. F.there m f) m f);
+        (put_all (λ (m : ℕ) (y : Reckoned). y.is_in_force ≡ true → Taken authority_no b.authorities m) n x r.authority
+        (λ f. there) (λ m ne f. F.there m f) m f);
     placed = F.placed;
     runs = F.runs;
     blocks = F.blocks;
@@ -224,9 +243,11 @@ module _ (b : Board) (r : Reckoning.Reckoning) (F : Follows b r) where
     requests = F.requests;
     portions = F.portions;
     held =
-        change_each (λ (a : Authority). Held r.requests (r.authority (authority_no a)) a) (is_authority n) g b.authorities
+        change_each (λ (a : Authority). Held r.requests (r.authority (authority_no a)) a)
+        (is_authority n) g b.authorities
         (λ a m e. F.held a m)
-        (λ a m e. subst (λ (k : ℕ). Held r.requests (r.authority k) (g a)) (sym (same a)) (held a (r.authority (authority_no a)) (F.held a m)));
+        (λ a m e. subst (λ (k : ℕ). Held r.requests (r.authority k) (g a)) (sym (same a))
+        (held a (r.authority (authority_no a)) (F.held a m)));
     rests =
         change_each (λ (a : Authority). Rests r.requests r.authority a.kind a.agreed.0) (is_authority n) g b.authorities
         (λ a m e. F.rests a m)
@@ -243,21 +264,27 @@ module _ (b : Board) (r : Reckoning.Reckoning) (F : Follows b r) where
 
   -- one authority ended
   pub follows_ended : (n : ℕ)
-      → Follows (with_authorities (ended n b.authorities) b) (Reckoning.with_authorities (put n (as_ended (r.authority n)) r.authority) r)
+      → Follows (with_authorities (ended n b.authorities) b)
+      (Reckoning.with_authorities (put n (as_ended (r.authority n)) r.authority) r)
   follows_ended n = record {
     requests = F.requests;
     portions = F.portions;
     held =
         λ a m.
         let k = ended_member n b.authorities a m in
-        subst (λ (y : Reckoned). Held r.requests y a) (sym (put_other n (as_ended (r.authority n)) r.authority (authority_no a) k.1))
+        subst (λ (y : Reckoned). Held r.requests y a)
+        (sym (put_other n (as_ended (r.authority n)) r.authority (authority_no a) k.1))
         (F.held a k.0);
-    rests = rests_put n (as_ended (r.authority n)) (ended n b.authorities) refl (λ a m. F.rests a (ended_member n b.authorities a m).0);
+    rests =
+        rests_put n (as_ended (r.authority n)) (ended n b.authorities) refl
+        (λ a m. F.rests a (ended_member n b.authorities a m).0);
     since =
-        put_all (λ (m : ℕ) (y : Reckoned). y.is_in_force ≡ true → y.since ≤ r.grants) n (as_ended (r.authority n)) r.authority
+        put_all (λ (m : ℕ) (y : Reckoned). y.is_in_force ≡ true → y.since ≤ r.grants) n
+        (as_ended (r.authority n)) r.authority
         (λ f. absurd (false≢true f)) (λ m ne f. F.since m f);
     there =
-        put_all (λ (m : ℕ) (y : Reckoned). y.is_in_force ≡ true → Taken authority_no (ended n b.authorities) m) n (as_ended (r.authority n)) r.authority
+        put_all (λ (m : ℕ) (y : Reckoned). y.is_in_force ≡ true → Taken authority_no (ended n b.authorities) m) n
+        (as_ended (r.authority n)) r.authority
         (λ f. absurd (false≢true f)) (λ m ne f. there_ended n b.authorities m ne (F.there m f));
     placed = F.placed;
     runs = F.runs;
@@ -265,12 +292,14 @@ module _ (b : Board) (r : Reckoning.Reckoning) (F : Follows b r) where
     gates = F.gates;
     blocked = F.blocked;
     unallotted =
-        put_all (λ (m : ℕ) (y : Reckoned). r.requests < m → (y.agreed ≡ 0) × (y.joined ≡ 0)) n (as_ended (r.authority n)) r.authority
+        put_all (λ (m : ℕ) (y : Reckoned). r.requests < m → (y.agreed ≡ 0) × (y.joined ≡ 0)) n
+        (as_ended (r.authority n)) r.authority
         (F.unallotted n) (λ m ne. F.unallotted m);
   }
 
   -- other trains
-  pub follows_trains : (ts : List Train) (T : ℕ → Position) → AllPlaced T ts → ((n : ℕ) → (T n).on_board ≡ true → Taken train_no ts n)
+  pub follows_trains : (ts : List Train) (T : ℕ → Position) → AllPlaced T ts
+      → ((n : ℕ) → (T n).on_board ≡ true → Taken train_no ts n)
       → Follows (with_trains ts b) (Reckoning.with_trains T r)
   follows_trains ts T p q = record {
     requests = F.requests;
@@ -288,7 +317,8 @@ module _ (b : Board) (r : Reckoning.Reckoning) (F : Follows b r) where
   }
 
   -- a stamp and bookings are not reckoned
-  pub follows_beside : (day time : ℕ) (bookings : List Booking) → Follows (with_stamp day time (with_bookings bookings b)) r
+  pub follows_beside : (day time : ℕ) (bookings : List Booking)
+      → Follows (with_stamp day time (with_bookings bookings b)) r
   follows_beside day time bookings = record {
     requests = F.requests;
     portions = F.portions;

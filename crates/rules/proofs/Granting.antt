@@ -69,17 +69,28 @@ module _ (b : Board) (r : Reckoning.Reckoning) (F : Follows b r) (n : ℕ) (l : 
       let c2 : not (eqb (authority_no o) (authority_no a)) ≡ true =
       ap not (ne_eqb (authority_no o) (authority_no a) (λ q. ne (sym e ∙ q ∙ (authority_there b n l).1))) in
       let c3 : not (eqb (authority_no o) old) ≡ true = ap not (ne_eqb (authority_no o) old (λ q. nold (sym e ∙ q))) in
-      let c4 : shares a.limits o.limits ≡ true = shares_some a.limits o.limits p (omega (arith, k.last)) (h.from p ip) (k.from p im) in
-      let c5 : not ((is_twa a.kind || is_toa a.kind) && eqb (authority_no o) a.agreed.0) ≡ false = search (shown, none) in
+      let c4 : shares a.limits o.limits ≡ true =
+      shares_some a.limits o.limits p (omega (arith, k.last)) (h.from p ip) (k.from p im) in
+      let c5 : not ((is_twa a.kind || is_toa a.kind) && eqb (authority_no o) a.agreed.0) ≡ false =
+      search (shown, none) in
       let some-kind : (is_twa a.kind || is_toa a.kind) ≡ true = search (told, c5) in
       let agreed : authority_no o ≡ a.agreed.0 = search (told, eqb-true, c5) in
       let some : a.agreed.0 ≡ 0 → ⊥ = λ z. omega (arith, k.positive) in
       let gives : (r.authority m).kind ≡ giver a.kind =
-      subst (λ (i : ℕ). (r.authority i).kind ≡ giver a.kind) (sym agreed ∙ e) (F.rests a (authority_there b n l).0 some).0 in (
+      subst (λ (i : ℕ). (r.authority i).kind ≡ giver a.kind) (sym agreed ∙ e)
+      (F.rests a (authority_there b n l).0 some).0 in (
         omega (arith, F.since m f),
         ⊎_map
-            (λ w. let twa = twa_kind a.kind w in (gives ∙ ap giver twa, h.kind ∙ twa, sym (twa_agreement x (h.kind ∙ twa)) ∙ h.agreement ∙ sym agreed ∙ e))
-            (λ w. let toa = toa_kind a.kind w in (gives ∙ ap giver toa, h.kind ∙ toa, sym (toa_agreement x (h.kind ∙ toa)) ∙ h.agreement ∙ sym agreed ∙ e))
+            (λ w. let twa = twa_kind a.kind w in (
+              gives ∙ ap giver twa,
+              h.kind ∙ twa,
+              sym (twa_agreement x (h.kind ∙ twa)) ∙ h.agreement ∙ sym agreed ∙ e,
+            ))
+            (λ w. let toa = toa_kind a.kind w in (
+              gives ∙ ap giver toa,
+              h.kind ∙ toa,
+              sym (toa_agreement x (h.kind ∙ toa)) ∙ h.agreement ∙ sym agreed ∙ e,
+            ))
             (or_cases (is_twa a.kind) (is_toa a.kind) some-kind),
       )
 
@@ -88,7 +99,8 @@ module _ (b : Board) (r : Reckoning.Reckoning) (F : Follows b r) (n : ℕ) (l : 
       → (In x (gate_at b.gates g).from → ⊥) → r.blocked g ≡ true
   unfolding unprotected is_open needs
   new_protected fails g lt i o =
-      let none : is_open b a.limits g ≡ false = any_no (is_open b a.limits) (below (length b.gates)) fails g (below_has (length b.gates) g lt) in
+      let none : is_open b a.limits g ≡ false =
+      any_no (is_open b a.limits) (below (length b.gates)) fails g (below_has (length b.gates) g lt) in
       let to : has (gate_at b.gates g).to a.limits ≡ true = h.from _ i in
       let from : not (has (gate_at b.gates g).from a.limits) ≡ true =
       ⊎_elim (λ q. absurd (o (h.into _ q))) (λ q. ap not q) (truth (has (gate_at b.gates g).from a.limits)) in
@@ -96,7 +108,8 @@ module _ (b : Board) (r : Reckoning.Reckoning) (F : Follows b r) (n : ℕ) (l : 
       F.blocks g (search (told, on))
 
   -- 12 of GRANT and REOCCUPY: no train touches n's limits
-  new_untouched : occupied b a ≡ false → (t : ℕ) → (r.train t).on_board ≡ true → (In x (r.train t).head → ⊥) × (In x (r.train t).rear → ⊥)
+  new_untouched : occupied b a ≡ false → (t : ℕ) → (r.train t).on_board ≡ true
+      → (In x (r.train t).head → ⊥) × (In x (r.train t).rear → ⊥)
   unfolding occupied touches
   new_untouched fails t on =
       let (o, m, q) = placed_there b r F t on in
@@ -105,17 +118,21 @@ module _ (b : Board) (r : Reckoning.Reckoning) (F : Follows b r) (n : ℕ) (l : 
         (λ i. clash (h.from o.rear (subst (In x) q.rear i)) (search (told, none))),
       )
 
-held_granted : {requests : ℕ} (since : ℕ) (x : Reckoned) (a : Authority) → Held requests x a → Held requests (as_forced since x) (granted a)
-held_granted since x a h = held_anew x (as_forced since x) a (granted a) h refl refl refl refl refl refl refl (λ e. refl) h.agreement
+held_granted : {requests : ℕ} (since : ℕ) (x : Reckoned) (a : Authority) → Held requests x a
+    → Held requests (as_forced since x) (granted a)
+held_granted since x a h =
+    held_anew x (as_forced since x) a (granted a) h refl refl refl refl refl refl refl (λ e. refl) h.agreement
 
 module _ (b : Board) (r : Reckoning.Reckoning) (F : Follows b r) (S : Safe b.gates r) (s : Seven) where
   -- ---- GRANT
 
-  pub keeps_grant : (n : AuthorityNo) (officer : ℕ) → Accepted b s (Some (Grant n officer)) → Keeps b r (Some (Grant n officer))
+  pub keeps_grant : (n : AuthorityNo) (officer : ℕ) → Accepted b s (Some (Grant n officer))
+      → Keeps b r (Some (Grant n officer))
   unfolding effect reckon own condition_at
   keeps_grant n officer ok = record {
     follows =
-        follows_amended b r F n.0 granted x (suc r.grants) (λ a. refl) refl (held_granted (suc r.grants) (r.authority n.0))
+        follows_amended b r F n.0 granted x (suc r.grants) (λ a. refl) refl
+        (held_granted (suc r.grants) (r.authority n.0))
         (λ a m e. F.rests a m) (there b r F n.0 l) (omega arith) (λ f. omega arith);
     safe =
         safe_put b.gates r n.0 x
@@ -141,7 +158,8 @@ module _ (b : Board) (r : Reckoning.Reckoning) (F : Follows b r) (S : Safe b.gat
 
   -- ---- REOCCUPY
 
-  pub keeps_reoccupy : (n : AuthorityNo) (officer : ℕ) → Accepted b s (Some (Reoccupy n officer)) → Keeps b r (Some (Reoccupy n officer))
+  pub keeps_reoccupy : (n : AuthorityNo) (officer : ℕ) → Accepted b s (Some (Reoccupy n officer))
+      → Keeps b r (Some (Reoccupy n officer))
   unfolding effect reckon own condition_at
   keeps_reoccupy n officer ok = record {
     follows =
@@ -171,7 +189,8 @@ module _ (b : Board) (r : Reckoning.Reckoning) (F : Follows b r) (S : Safe b.gat
 
 -- ---- CONTINUE
 
-module _ (b : Board) (r : Reckoning.Reckoning) (F : Follows b r) (old : ℕ) (new : AuthorityNo) (lo : live b old ≡ true) (ln : live b new.0 ≡ true) where
+module _ (b : Board) (r : Reckoning.Reckoning) (F : Follows b r) (old : ℕ) (new : AuthorityNo) (lo : live b old ≡ true)
+    (ln : live b new.0 ≡ true) where
   abbrev y : Reckoned
   y = r.authority new.0
 
@@ -193,22 +212,27 @@ module _ (b : Board) (r : Reckoning.Reckoning) (F : Follows b r) (old : ℕ) (ne
   -- a train that isn't reckoned under old stays under what it was; one that is, with its head in the limits, comes
   -- under new
   not_handed : (t : ℕ) → ((r.train t).under ≡ old → ⊥) → (handed t).under ≡ (r.train t).under
-  not_handed t z = ap (λ (k : Bool). cond (k && between y.first y.last (r.train t).head) new.0 (r.train t).under) (ne_eqb (r.train t).under old z)
+  not_handed t z =
+      ap (λ (k : Bool). cond (k && between y.first y.last (r.train t).head) new.0 (r.train t).under)
+      (ne_eqb (r.train t).under old z)
 
   is_handed : (t : ℕ) → (r.train t).under ≡ old → In y (r.train t).head → (handed t).under ≡ new.0
   is_handed t e i =
       ap (λ (k : Bool). cond k new.0 (r.train t).under)
       (and_from (eqb (r.train t).under old) (between y.first y.last (r.train t).head) (eq-eqb (r.train t).under old e)
-      (and_from (leb y.first (r.train t).head) (leb (r.train t).head y.last) (le-leb y.first (r.train t).head i.0) (le-leb (r.train t).head y.last i.1)))
+      (and_from (leb y.first (r.train t).head) (leb (r.train t).head y.last) (le-leb y.first (r.train t).head i.0)
+      (le-leb (r.train t).head y.last i.1)))
 
   -- 12: a train on the board isn't in the way
-  beside : occupied_beside b old c ≡ false → (t : ℕ) → (r.train t).on_board ≡ true → (o : Train) × Placed (r.train t) o × (in_the_way old c o ≡ false)
+  beside : occupied_beside b old c ≡ false → (t : ℕ) → (r.train t).on_board ≡ true
+      → (o : Train) × Placed (r.train t) o × (in_the_way old c o ≡ false)
   unfolding occupied_beside
   beside fails t on =
       let (o, m, q) = placed_there b r F t on in
       (o, q, any_no (in_the_way old c) b.trains fails o m)
 
-  beside_piloted : occupied_beside b old c ≡ false → (t : ℕ) → (r.train t).on_board ≡ true → In y (r.train t).head → (r.train t).under ≡ old
+  beside_piloted : occupied_beside b old c ≡ false → (t : ℕ) → (r.train t).on_board ≡ true → In y (r.train t).head
+      → (r.train t).under ≡ old
   unfolding in_the_way touches
   beside_piloted fails t on i =
       let (o, q, none) = beside fails t on in
@@ -236,9 +260,12 @@ module _ (b : Board) (r : Reckoning.Reckoning) (F : Follows b r) (old : ℕ) (ne
     on_board = q.on_board;
     head = q.head;
     rear = q.rear;
-    under = λ z. is_handed (train_no t) (q.under (λ k. nonzero_old (sym w ∙ k)) ∙ w) (subst (In y) (sym q.head) (hc.into t.head e));
+    under =
+        λ z. is_handed (train_no t) (q.under (λ k. nonzero_old (sym w ∙ k)) ∙ w)
+        (subst (In y) (sym q.head) (hc.into t.head e));
   }
-  placed_handed t q w false e = record { on_board = q.on_board; head = q.head; rear = q.rear; under = λ z. absurd (z refl) }
+  placed_handed t q w false e =
+      record { on_board = q.on_board; head = q.head; rear = q.rear; under = λ z. absurd (z refl) }
 
   placed_other : (t : Train) → Placed (r.train (train_no t)) t → (t.with.0 ≡ old → ⊥) → Placed (handed (train_no t)) t
   placed_other t q w = record {
@@ -249,12 +276,14 @@ module _ (b : Board) (r : Reckoning.Reckoning) (F : Follows b r) (old : ℕ) (ne
   }
 
 module _ (b : Board) (r : Reckoning.Reckoning) (F : Follows b r) (S : Safe b.gates r) (s : Seven) where
-  pub keeps_continue : (old new : AuthorityNo) (officer_old officer_new : ℕ) → Accepted b s (Some (Continue old new officer_old officer_new))
+  pub keeps_continue : (old new : AuthorityNo) (officer_old officer_new : ℕ)
+      → Accepted b s (Some (Continue old new officer_old officer_new))
       → Keeps b r (Some (Continue old new officer_old officer_new))
   unfolding effect reckon own condition_at
   keeps_continue old new officer_old officer_new ok = record {
     follows =
-        follows_amended b1 r1 follows_old new.0 granted (as_forced (suc r.grants) (r1.authority new.0)) (suc r.grants) (λ a. refl) refl
+        follows_amended b1 r1 follows_old new.0 granted (as_forced (suc r.grants) (r1.authority new.0)) (suc r.grants)
+        (λ a. refl) refl
         (held_granted (suc r.grants) (r1.authority new.0)) (λ a m e. follows_old.rests a m)
         (there_ended old.0 b.authorities new.0 distinct (there b r F new.0 ln)) (omega arith) (λ f. omega arith);
     safe =
@@ -262,7 +291,8 @@ module _ (b : Board) (r : Reckoning.Reckoning) (F : Follows b r) (S : Safe b.gat
         (subst (λ (u : Reckoned). New b.gates r1 new.0 (as_forced (suc r.grants) u)) (sym new_is)
         (record {
           apart = apart_new;
-          piloted = λ t on e i. is_handed b r F old.0 new lo ln t (beside_piloted b r F old.0 new lo ln (ok.ok 12) t on i) i;
+          piloted =
+              λ t on e i. is_handed b r F old.0 new lo ln t (beside_piloted b r F old.0 new lo ln (ok.ok 12) t on i) i;
           untouched = λ t on k v. beside_untouched b r F old.0 new lo ln (ok.ok 12) t on k;
           protected = new_protected b r F new.0 ln (ok.ok 11);
         }))
@@ -286,7 +316,9 @@ module _ (b : Board) (r : Reckoning.Reckoning) (F : Follows b r) (S : Safe b.gat
 
       -- old ended, and the trains handed over
       b1 : Board
-      b1 = with_trains (continued old.0 new (authority b new.0).limits b.trains) (with_authorities (ended old.0 b.authorities) b)
+      b1 =
+          with_trains (continued old.0 new (authority b new.0).limits b.trains)
+          (with_authorities (ended old.0 b.authorities) b)
 
       r1 : Reckoning.Reckoning
       r1 = Reckoning.with_trains T1 (Reckoning.with_authorities (put old.0 z r.authority) r)
@@ -302,18 +334,24 @@ module _ (b : Board) (r : Reckoning.Reckoning) (F : Follows b r) (S : Safe b.gat
 
       follows_old : Follows b1 r1
       follows_old =
-          follows_trains (with_authorities (ended old.0 b.authorities) b) (Reckoning.with_authorities (put old.0 z r.authority) r)
+          follows_trains (with_authorities (ended old.0 b.authorities) b)
+          (Reckoning.with_authorities (put old.0 z r.authority) r)
           (follows_ended b r F old.0)
           (continued old.0 new (authority b new.0).limits b.trains) T1
-          (change_each (λ (t : Train). Placed (T1 (train_no t)) t) (is_with old.0) (continued_with new (authority b new.0).limits) b.trains
+          (change_each (λ (t : Train). Placed (T1 (train_no t)) t) (is_with old.0)
+          (continued_with new (authority b new.0).limits) b.trains
           (λ t m e. placed_other b r F old.0 new lo ln t (F.placed t m) (eqb-false t.with.0 old.0 e))
-          (λ t m e. placed_handed b r F old.0 new lo ln t (F.placed t m) (eqb-true t.with.0 old.0 e) (has t.head (authority b new.0).limits) refl))
-          (λ t on. taken_change train_no (is_with old.0) (continued_with new (authority b new.0).limits) (λ t. refl) b.trains t (F.runs t on))
+          (λ t m e. placed_handed b r F old.0 new lo ln t (F.placed t m) (eqb-true t.with.0 old.0 e)
+          (has t.head (authority b new.0).limits) refl))
+          (λ t on. taken_change train_no (is_with old.0) (continued_with new (authority b new.0).limits)
+          (λ t. refl) b.trains t (F.runs t on))
 
       -- what holds of every authority but old, old being ended
       but_old : (P : ℕ → Reckoned → Type 0) → ((m : ℕ) → (m ≡ old.0 → ⊥) → Forced r.authority m → P m (r.authority m))
           → (m : ℕ) → Forced (put old.0 z r.authority) m → P m (put old.0 z r.authority m)
-      but_old P k = put_all (λ (m : ℕ) (u : Reckoned). u.is_in_force ≡ true → P m u) old.0 z r.authority (λ f. absurd (false≢true f)) k
+      but_old P k =
+          put_all (λ (m : ℕ) (u : Reckoned). u.is_in_force ≡ true → P m u) old.0 z r.authority
+          (λ f. absurd (false≢true f)) k
 
       safe_ended : Safe b.gates (Reckoning.with_authorities (put old.0 z r.authority) r)
       safe_ended = safe_quieter b.gates r S r.requests old.0 z (λ f. absurd (false≢true f))
@@ -324,12 +362,14 @@ module _ (b : Board) (r : Reckoning.Reckoning) (F : Follows b r) (S : Safe b.gat
         piloted =
             λ t m on f.
             but_old (λ (m : ℕ) (u : Reckoned). exclusive u.kind ≡ true → In u (r.train t).head → (T1 t).under ≡ m)
-            (λ m ne f e i. not_handed b r F old.0 new lo ln t (λ k. ne (sym (S.piloted t m on f e i) ∙ k)) ∙ S.piloted t m on f e i) m f;
+            (λ m ne f e i. not_handed b r F old.0 new lo ln t (λ k. ne (sym (S.piloted t m on f e i) ∙ k))
+            ∙ S.piloted t m on f e i) m f;
         untouched = λ t m on f. safe_ended.untouched t m on f;
         protected = safe_ended.protected;
       }
 
-      apart_new : (m p : ℕ) → (m ≡ new.0 → ⊥) → Forced (put old.0 z r.authority) m → In (put old.0 z r.authority m) p → In x p
+      apart_new : (m p : ℕ) → (m ≡ new.0 → ⊥) → Forced (put old.0 z r.authority) m → In (put old.0 z r.authority m) p
+          → In x p
           → Agreed (put old.0 z r.authority m) m x ⊎ Agreed x new.0 (put old.0 z r.authority m)
       apart_new m p ne f =
           but_old (λ (m : ℕ) (u : Reckoned). (m ≡ new.0 → ⊥) → In u p → In x p → Agreed u m x ⊎ Agreed x new.0 u)

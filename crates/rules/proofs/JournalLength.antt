@@ -23,12 +23,24 @@ Small n = n < 65536
 small_fits : (n : ℕ) → Small n → fits 6 n ≡ true
 small_fits n h = fits_below 6 n (omega arith) (omega arith)
 
-pub nine_fit : (s : Seven) (answer number : ℕ) → Each Small (nine s answer number) → all_fit journal_widths (nine s answer number) ≡ true
+pub nine_fit : (s : Seven) (answer number : ℕ) → Each Small (nine s answer number)
+    → all_fit journal_widths (nine s answer number) ≡ true
 unfolding all_fit
 nine_fit s answer number (a, (b, (c, (d, (e, (f, (g, (h, (i, u))))))))) =
-    rw (small_fits s.day a, small_fits s.time b, small_fits s.call c, small_fits s.a d, small_fits s.b e, small_fits s.c f, small_fits s.d g, small_fits answer h, small_fits number i)
+    rw (
+      small_fits s.day a,
+      small_fits s.time b,
+      small_fits s.call c,
+      small_fits s.a d,
+      small_fits s.b e,
+      small_fits s.c f,
+      small_fits s.d g,
+      small_fits answer h,
+      small_fits number i,
+    )
 
 -- THEOREM: the line is 55 bytes long
-pub line_55 : (s : Seven) (answer number : ℕ) → Each Small (nine s answer number) → length (journal_line s answer number) ≡ 55
+pub line_55 : (s : Seven) (answer number : ℕ) → Each Small (nine s answer number)
+    → length (journal_line s answer number) ≡ 55
 unfolding journal_line total
 line_55 s answer number h = line-length journal_widths (nine s answer number) (nine_fit s answer number h)

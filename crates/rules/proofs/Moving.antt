@@ -59,11 +59,13 @@ module _ (b : Board) (r : Reckoning.Reckoning) (F : Follows b r) (S : Safe b.gat
   -- ---- one authority in force at a portion: E is the only exclusive one, W the only TWA, by the claim itself
 
   only_exclusive : (m n p : ℕ) → Forced r.authority m → Forced r.authority n
-      → exclusive (r.authority m).kind ≡ true → exclusive (r.authority n).kind ≡ true → In (r.authority m) p → In (r.authority n) p → m ≡ n
+      → exclusive (r.authority m).kind ≡ true → exclusive (r.authority n).kind ≡ true → In (r.authority m) p
+      → In (r.authority n) p → m ≡ n
   only_exclusive m n p fm fn xm xn im jn =
       stable m n
       (λ ne.
-      ⊎_elim (λ g. not_both_exclusive (r.authority m) (r.authority n) g xm xn) (λ g. not_both_exclusive (r.authority n) (r.authority m) g xn xm)
+      ⊎_elim (λ g. not_both_exclusive (r.authority m) (r.authority n) g xm xn)
+      (λ g. not_both_exclusive (r.authority n) (r.authority m) g xn xm)
       (S.apart m n p ne fm fn im jn))
 
   only_twa : (m n p : ℕ) → Forced r.authority m → Forced r.authority n
@@ -71,11 +73,13 @@ module _ (b : Board) (r : Reckoning.Reckoning) (F : Follows b r) (S : Safe b.gat
   only_twa m n p fm fn km kn im jn =
       stable m n
       (λ ne.
-      ⊎_elim (λ g. not_both_twa (r.authority m) (r.authority n) g km kn) (λ g. not_both_twa (r.authority n) (r.authority m) g kn km)
+      ⊎_elim (λ g. not_both_twa (r.authority m) (r.authority n) g km kn)
+      (λ g. not_both_twa (r.authority n) (r.authority m) g kn km)
       (S.apart m n p ne fm fn im jn))
 
   -- the exclusive authority in force whose limits hold p is the pilot
-  pilot_is : (m p : ℕ) → Forced r.authority m → exclusive (r.authority m).kind ≡ true → In (r.authority m) p → authority_no (pilot b p) ≡ m
+  pilot_is : (m p : ℕ) → Forced r.authority m → exclusive (r.authority m).kind ≡ true → In (r.authority m) p
+      → authority_no (pilot b p) ≡ m
   unfolding pilot any_e is_e
   pilot_is m p f x i =
       let (a, k, e, h) = held_there b r F m f in
@@ -85,7 +89,8 @@ module _ (b : Board) (r : Reckoning.Reckoning) (F : Follows b r) (S : Safe b.gat
       let passes : is_e p a ≡ true = search shown in
       let some : any (is_e p) b.authorities ≡ true = any_yes (is_e p) b.authorities a k passes in
       let w = first_found (is_e p) no_authority b.authorities some in
-      ap (λ (z : Bool). authority_no (cond z (first (is_e p) no_authority b.authorities) (cond (any_w b p) (the_w b p) no_authority))) some
+      ap (λ (z : Bool). authority_no
+      (cond z (first (is_e p) no_authority b.authorities) (cond (any_w b p) (the_w b p) no_authority))) some
       ∙ only (first (is_e p) no_authority b.authorities) w.member w.passes
     where
       only : (o : Authority) → Member o b.authorities → is_e p o ≡ true → authority_no o ≡ m
@@ -94,10 +99,12 @@ module _ (b : Board) (r : Reckoning.Reckoning) (F : Follows b r) (S : Safe b.gat
           let c1 : is_in_force o ≡ true = search (told, t) in
           let c2 : exclusive o.kind ≡ true = search (told, t) in
           let c3 : has p o.limits ≡ true = search (told, t) in
-          only_exclusive (authority_no o) m p (h.force ∙ c1) f (subst (λ (k : Kind). exclusive k ≡ true) (sym h.kind) c2) x (h.into p c3) i
+          only_exclusive (authority_no o) m p (h.force ∙ c1) f
+          (subst (λ (k : Kind). exclusive k ≡ true) (sym h.kind) c2) x (h.into p c3) i
 
   -- 14: no TWA in force with workers on holds p
-  w_clear : (m p : ℕ) → worked_on b p ≡ false → Forced r.authority m → (r.authority m).kind ≡ Twa → (r.authority m).has_workers_on ≡ true
+  w_clear : (m p : ℕ) → worked_on b p ≡ false → Forced r.authority m → (r.authority m).kind ≡ Twa
+      → (r.authority m).has_workers_on ≡ true
       → In (r.authority m) p → ⊥
   unfolding worked_on any_w the_w is_w
   w_clear m p c f k v i =
@@ -118,7 +125,8 @@ module _ (b : Board) (r : Reckoning.Reckoning) (F : Follows b r) (S : Safe b.gat
           let fo : is_in_force o ≡ true = search (told, t) in
           let c2 : is_twa o.kind ≡ true = search (told, t) in
           let c3 : has p o.limits ≡ true = search (told, t) in
-          let same : authority_no o ≡ m = only_twa (authority_no o) m p (h.force ∙ fo) f (h.kind ∙ twa_kind o.kind c2) k (h.into p c3) i in
+          let same : authority_no o ≡ m =
+          only_twa (authority_no o) m p (h.force ∙ fo) f (h.kind ∙ twa_kind o.kind c2) k (h.into p c3) i in
           clash v (ap (λ (j : ℕ). (r.authority j).has_workers_on) (sym same) ∙ h.site fo ∙ off)
 
   -- the train that a call names
@@ -133,11 +141,13 @@ module _ (b : Board) (r : Reckoning.Reckoning) (F : Follows b r) (S : Safe b.gat
   module _ (s : Seven) where
     -- ---- MOVE
 
-    pub keeps_move : (t : TrainNo) (g : GateNo) (n : AuthorityNo) (officer : ℕ) → Accepted b s (Some (Move t g n officer)) → Keeps b r (Some (Move t g n officer))
+    pub keeps_move : (t : TrainNo) (g : GateNo) (n : AuthorityNo) (officer : ℕ)
+        → Accepted b s (Some (Move t g n officer)) → Keeps b r (Some (Move t g n officer))
     unfolding effect reckon own condition_at not_there on_board not_piloted
     keeps_move t g n officer ok = record {
       follows =
-          follows_trains b r F (cond (is_outside gate.from) (insert_by train_no fresh b.trains) (moved t.0 f b.trains)) (put t.0 y r.train)
+          follows_trains b r F (cond (is_outside gate.from) (insert_by train_no fresh b.trains) (moved t.0 f b.trains))
+          (put t.0 y r.train)
           (all_placed (is_outside gate.from) refl) (all_run (is_outside gate.from) refl);
       safe =
           record {
@@ -145,15 +155,19 @@ module _ (b : Board) (r : Reckoning.Reckoning) (F : Follows b r) (S : Safe b.gat
             piloted =
                 put_all
                 (λ (i : ℕ) (z : Position).
-                (m : ℕ) → z.on_board ≡ true → Forced r.authority m → exclusive (r.authority m).kind ≡ true → In (r.authority m) z.head → z.under ≡ m)
-                t.0 y r.train (λ m on f e i. pilots ∙ pilot_is m gate.to f e i) (λ i ne m on f e j. S.piloted i m on f e j);
+                (m : ℕ) → z.on_board ≡ true → Forced r.authority m → exclusive (r.authority m).kind ≡ true
+                → In (r.authority m) z.head → z.under ≡ m)
+                t.0 y r.train (λ m on f e i. pilots ∙ pilot_is m gate.to f e i)
+                (λ i ne m on f e j. S.piloted i m on f e j);
             untouched =
                 put_all
                 (λ (i : ℕ) (z : Position).
-                (m : ℕ) → z.on_board ≡ true → Forced r.authority m → (r.authority m).kind ≡ Twa → (r.authority m).has_workers_on ≡ true
+                (m : ℕ) → z.on_board ≡ true → Forced r.authority m → (r.authority m).kind ≡ Twa
+                → (r.authority m).has_workers_on ≡ true
                 → (In (r.authority m) z.head → ⊥) × (In (r.authority m) z.rear → ⊥))
                 t.0 y r.train
-                (λ m on f k v. (λ i. w_clear m gate.to (ok.ok 14) f k v i, rear_clear m f k v (is_outside gate.from) refl))
+                (λ m on f k v.
+                (λ i. w_clear m gate.to (ok.ok 14) f k v i, rear_clear m f k v (is_outside gate.from) refl))
                 (λ i ne m on f k v. S.untouched i m on f k v);
             protected = S.protected;
           };
@@ -176,9 +190,11 @@ module _ (b : Board) (r : Reckoning.Reckoning) (F : Follows b r) (S : Safe b.gat
         pilots = search (told, eqb-true, ok.ok 19)
 
         -- 17
-        stays : (z : Bool) → is_outside gate.from ≡ z → cond z (on_board b t.0) (not (on_board b t.0 && is_at gate.from (train b t.0))) ≡ false
+        stays : (z : Bool) → is_outside gate.from ≡ z
+            → cond z (on_board b t.0) (not (on_board b t.0 && is_at gate.from (train b t.0))) ≡ false
         stays z e =
-            sym (ap (λ (z : Bool). cond z (on_board b t.0) (not (on_board b t.0 && is_at gate.from (train b t.0)))) e) ∙ ok.ok 17
+            sym (ap (λ (z : Bool). cond z (on_board b t.0) (not (on_board b t.0 && is_at gate.from (train b t.0)))) e)
+            ∙ ok.ok 17
 
         present : is_outside gate.from ≡ false → on_board b t.0 ≡ true
         present e = let k = stays false e in search (told, k)
@@ -199,28 +215,39 @@ module _ (b : Board) (r : Reckoning.Reckoning) (F : Follows b r) (S : Safe b.gat
             (λ q.
             subst (λ (k : Train). Placed (put t.0 y r.train (train_no k)) k) (sym q)
             (subst (λ (u : Position). Placed u fresh) (sym (put_same t.0 y r.train)) (new_placed e)))
-            (λ k. subst (λ (u : Position). Placed u o) (sym (put_other t.0 y r.train (train_no o) (others e o k))) (F.placed o k))
+            (λ k. subst (λ (u : Position). Placed u o) (sym (put_other t.0 y r.train (train_no o) (others e o k)))
+            (F.placed o k))
             (inserted_from train_no fresh b.trains o m)
         all_placed false e o m =
             placed_moved t.0 f (λ o. refl) y r.train b.trains
-            (λ o h. record { on_board = refl; head = refl; rear = rear_is false e ∙ h.rear; under = λ z. refl }) F.placed o m
+            (λ o h. record {
+              on_board = refl;
+              head = refl;
+              rear = rear_is false e ∙ h.rear;
+              under = λ z. refl;
+            }) F.placed o m
 
         all_run : (z : Bool) → is_outside gate.from ≡ z → (m : ℕ) → (put t.0 y r.train m).on_board ≡ true
             → Taken train_no (cond z (insert_by train_no fresh b.trains) (moved t.0 f b.trains)) m
         all_run true e =
-            put_all (λ (m : ℕ) (u : Position). u.on_board ≡ true → Taken train_no (insert_by train_no fresh b.trains) m) t.0 y r.train
+            put_all (λ (m : ℕ) (u : Position). u.on_board ≡ true
+            → Taken train_no (insert_by train_no fresh b.trains) m) t.0 y r.train
             (λ on. (fresh, inserted_into train_no fresh b.trains fresh (inl refl), refl))
             (λ m ne on. let (o, k, q) = F.runs m on in (o, inserted_into train_no fresh b.trains o (inr k), q))
         all_run false e =
-            put_all (λ (m : ℕ) (u : Position). u.on_board ≡ true → Taken train_no (moved t.0 f b.trains) m) t.0 y r.train
+            put_all (λ (m : ℕ) (u : Position). u.on_board ≡ true
+            → Taken train_no (moved t.0 f b.trains) m) t.0 y r.train
             (λ on. taken_change train_no (is_train t.0) f (λ o. refl) b.trains t.0 (train_taken t.0 (present e)))
             (λ m ne on. taken_change train_no (is_train t.0) f (λ o. refl) b.trains m (F.runs m on))
 
-        rear_clear : (m : ℕ) → Forced r.authority m → (r.authority m).kind ≡ Twa → (r.authority m).has_workers_on ≡ true → (z : Bool) → is_outside gate.from ≡ z
+        rear_clear : (m : ℕ) → Forced r.authority m → (r.authority m).kind ≡ Twa → (r.authority m).has_workers_on ≡ true
+            → (z : Bool) → is_outside gate.from ≡ z
             → In (r.authority m) y.rear → ⊥
-        rear_clear m fm k v true e i = w_clear m gate.to (ok.ok 14) fm k v (subst (In (r.authority m)) (rear_is true e) i)
+        rear_clear m fm k v true e i =
+            w_clear m gate.to (ok.ok 14) fm k v (subst (In (r.authority m)) (rear_is true e) i)
         rear_clear m fm k v false e i =
-            (S.untouched t.0 m (train_here t.0 (present e)).on_board fm k v).1 (subst (In (r.authority m)) (rear_is false e) i)
+            (S.untouched t.0 m (train_here t.0 (present e)).on_board fm k v).1
+            (subst (In (r.authority m)) (rear_is false e) i)
 
     -- ---- PASSED
 
@@ -228,12 +255,15 @@ module _ (b : Board) (r : Reckoning.Reckoning) (F : Follows b r) (S : Safe b.gat
     unfolding effect reckon own condition_at
     keeps_passed t ok = record {
       follows =
-          follows_trains b r F (cond (is_outside (train b t.0).head) (gone t.0 b.trains) (moved t.0 with_rear_in b.trains)) (put t.0 y r.train)
+          follows_trains b r F
+          (cond (is_outside (train b t.0).head) (gone t.0 b.trains) (moved t.0 with_rear_in b.trains))
+          (put t.0 y r.train)
           (all_placed (is_outside (train b t.0).head) refl) (all_run (is_outside (train b t.0).head) refl);
       safe =
           safe_less b.gates (Reckoning.with_trains (put t.0 y r.train) r) r (λ m q. quiet_same (r.authority m) q)
           (put_all (λ (m : ℕ) (u : Position). u.on_board ≡ true → Smaller u (r.train m)) t.0 y r.train
-          (λ on. record { on_board = q.on_board; head = refl; under = refl; rear = inr refl }) (λ m ne on. small_same (r.train m) on))
+          (λ on. record { on_board = q.on_board; head = refl; under = refl; rear = inr refl })
+          (λ m ne on. small_same (r.train m) on))
           (λ g h. h) S;
     }
       where
@@ -256,7 +286,12 @@ module _ (b : Board) (r : Reckoning.Reckoning) (F : Follows b r) (S : Safe b.gat
             subst (λ (u : Position). Placed u o) (sym (put_other t.0 y r.train (train_no o) k.1)) (F.placed o k.0)
         all_placed false e o m =
             placed_moved t.0 with_rear_in (λ o. refl) y r.train b.trains
-            (λ o h. record { on_board = on_is false e ∙ h.on_board; head = h.head; rear = h.head; under = h.under }) F.placed o m
+            (λ o h. record {
+              on_board = on_is false e ∙ h.on_board;
+              head = h.head;
+              rear = h.head;
+              under = h.under;
+            }) F.placed o m
 
         all_run : (z : Bool) → is_outside (train b t.0).head ≡ z → (m : ℕ) → (put t.0 y r.train m).on_board ≡ true
             → Taken train_no (cond z (gone t.0 b.trains) (moved t.0 with_rear_in b.trains)) m
@@ -264,6 +299,7 @@ module _ (b : Board) (r : Reckoning.Reckoning) (F : Follows b r) (S : Safe b.gat
             put_all (λ (m : ℕ) (u : Position). u.on_board ≡ true → Taken train_no (gone t.0 b.trains) m) t.0 y r.train
             (λ on. clash on (on_is true e)) (λ m ne on. runs_gone t.0 b.trains m ne (F.runs m on))
         all_run false e =
-            put_all (λ (m : ℕ) (u : Position). u.on_board ≡ true → Taken train_no (moved t.0 with_rear_in b.trains) m) t.0 y r.train
+            put_all (λ (m : ℕ) (u : Position). u.on_board ≡ true
+            → Taken train_no (moved t.0 with_rear_in b.trains) m) t.0 y r.train
             (λ on. taken_change train_no (is_train t.0) with_rear_in (λ o. refl) b.trains t.0 (train_taken t.0 l))
             (λ m ne on. taken_change train_no (is_train t.0) with_rear_in (λ o. refl) b.trains m (F.runs m on))

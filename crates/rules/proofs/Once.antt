@@ -44,7 +44,8 @@ use Rattle.rules.proofs.Opening.{fresh}
 -- ---- the authorities changed, or some ended; the trains changed, or some gone; numbers kept
 
 module _ (b : Board) (o : Once b) where
-  once_change : (test : Authority → Bool) (f : Authority → Authority) → ((a : Authority) → authority_no (f a) ≡ authority_no a)
+  once_change : (test : Authority → Bool) (f : Authority → Authority)
+      → ((a : Authority) → authority_no (f a) ≡ authority_no a)
       → Once (with_authorities (change test f b.authorities) b)
   once_change test f same = record {
     authorities = ascending_change authority_no test f same b.authorities o.authorities;
@@ -114,34 +115,48 @@ once_request b o a room n =
       running = o.running;
       last = omega arith;
       allotted =
-          λ x m. ⊎_elim (λ k. omega (arith, o.allotted x k)) (λ e. omega (arith, ap authority_no (Memᴰ.eq_of_singleton e))) (Memᴰ.append_cases b.authorities m);
+          λ x m. ⊎_elim (λ k. omega (arith, o.allotted x k))
+          (λ e. omega (arith, ap authority_no (Memᴰ.eq_of_singleton e))) (Memᴰ.append_cases b.authorities m);
     }
 
-once_move : (b : Board) (o : Once b) (t : Train) (n : ℕ) (f : Train → Train) (gate : Gate) → train_no t ≡ n → ((x : Train) → train_no (f x) ≡ train_no x)
+once_move : (b : Board) (o : Once b) (t : Train) (n : ℕ) (f : Train → Train) (gate : Gate) → train_no t ≡ n
+    → ((x : Train) → train_no (f x) ≡ train_no x)
     → no_room b gate ≡ false → not_there b n gate ≡ false
-    → (z : Bool) → is_outside gate.from ≡ z → Once (with_trains (cond z (insert_by train_no t b.trains) (moved n f b.trains)) b)
+    → (z : Bool) → is_outside gate.from ≡ z
+    → Once (with_trains (cond z (insert_by train_no t b.trains) (moved n f b.trains)) b)
 unfolding no_room not_there on_board
 once_move b o t n f gate e same room there true z =
-    let few : length b.trains < 32 = leb-false 32 (length b.trains) (and_no_r (is_outside gate.from) (leb 32 (length b.trains)) room z) in
+    let few : length b.trains < 32 =
+    leb-false 32 (length b.trains) (and_no_r (is_outside gate.from) (leb 32 (length b.trains)) room z) in
     let new : any (is_train n) b.trains ≡ false = rw z at there in
     once_trains b o (insert_by train_no t b.trains) (ascending_insert train_no t b.trains o.trains (rw e new))
     (omega (arith, length_insert train_no t b.trains))
 once_move b o t n f gate e same room there false z = once_change-trains b o (is_train n) f same
 
-once_passed : (b : Board) (o : Once b) (n : ℕ) (z : Bool) → Once (with_trains (cond z (gone n b.trains) (moved n with_rear_in b.trains)) b)
+once_passed : (b : Board) (o : Once b) (n : ℕ) (z : Bool)
+    → Once (with_trains (cond z (gone n b.trains) (moved n with_rear_in b.trains)) b)
 once_passed b o n true = once_keep-trains b o (is_not_train n)
 once_passed b o n false = once_change-trains b o (is_train n) with_rear_in (λ t. refl)
 
 -- ---- any accepted call
 
 -- blocks or bookings changed
-once_beside : (b : Board) (o : Once b) (blocks : ℕ) (bookings : List Booking) → Once (with_bookings bookings (with_blocks blocks b))
-once_beside b o blocks bookings = record { authorities = o.authorities; trains = o.trains; live = o.live; running = o.running; last = o.last; allotted = o.allotted }
+once_beside : (b : Board) (o : Once b) (blocks : ℕ) (bookings : List Booking)
+    → Once (with_bookings bookings (with_blocks blocks b))
+once_beside b o blocks bookings = record {
+  authorities = o.authorities;
+  trains = o.trains;
+  live = o.live;
+  running = o.running;
+  last = o.last;
+  allotted = o.allotted;
+}
 
 once_effect : (b : Board) (o : Once b) (s : Seven) (c : Option Call) → Accepted b s c → Once (effect b c)
 unfolding effect own condition_at
 once_effect b o s None k = o
-once_effect b o s (Some (Request kind first last officer)) k = once_request b o (requested (suc b.last) kind (run first last) officer) (k.ok 9) refl
+once_effect b o s (Some (Request kind first last officer)) k =
+    once_request b o (requested (suc b.last) kind (run first last) officer) (k.ok 9) refl
 once_effect b o s (Some (Withdraw n officer)) k = once_keep b o (is_not_authority n.0)
 once_effect b o s (Some (Agree toa twa officer)) k = once_change b o (is_authority twa.0) (with_agreed toa) (λ a. refl)
 once_effect b o s (Some (Block g)) k = once_beside b o _ b.bookings
@@ -151,26 +166,40 @@ once_effect b o s (Some (Clear n officer)) k = once_change b o (is_authority n.0
 once_effect b o s (Some (Reoccupy n officer)) k = once_change b o (is_authority n.0) (with_site true) (λ a. refl)
 once_effect b o s (Some (HandOver n out into)) k = once_change b o (is_authority n.0) (with_officer into) (λ a. refl)
 once_effect b o s (Some (Fulfil n officer assurances)) k =
-    once_change-trains (with_authorities (ended n.0 b.authorities) b) (once_keep b o (is_not_authority n.0)) (is_with n.0) _ (λ t. refl)
+    once_change-trains (with_authorities (ended n.0 b.authorities) b) (once_keep b o (is_not_authority n.0))
+    (is_with n.0) _ (λ t. refl)
 once_effect b o s (Some (Continue old new officer_old officer_new)) k =
     let b1 : Board = with_authorities (ended old.0 b.authorities) b in
     let b2 : Board = with_authorities (amended new.0 granted (ended old.0 b.authorities)) b in
-    once_change-trains b2 (once_change b1 (once_keep b o (is_not_authority old.0)) (is_authority new.0) granted (λ a. refl)) (is_with old.0)
+    once_change-trains b2
+    (once_change b1 (once_keep b o (is_not_authority old.0)) (is_authority new.0) granted (λ a. refl))
+    (is_with old.0)
     (continued_with new (authority b new.0).limits) (λ t. refl)
 once_effect b o s (Some (Move t g n officer)) k =
     let gate : Gate = gate_at b.gates g.0 in
-    once_move b o (entered t gate.to n) t.0 (with_head gate.to n) gate refl (λ x. refl) (k.ok 9) (k.ok 17) (is_outside gate.from) refl
+    once_move b o (entered t gate.to n) t.0 (with_head gate.to n) gate refl (λ x. refl) (k.ok 9) (k.ok 17)
+    (is_outside gate.from) refl
 once_effect b o s (Some (Passed t)) k = once_passed b o t.0 (is_outside (train b t.0).head)
-once_effect b o s (Some (Term n day time length)) k = once_change b o (is_authority n.0) (with_term (minute_of day time) length) (λ a. refl)
-once_effect b o s (Some (Join twa toa officer distance)) k = once_change b o (is_authority toa.0) (with_agreed twa) (λ a. refl)
+once_effect b o s (Some (Term n day time length)) k =
+    once_change b o (is_authority n.0) (with_term (minute_of day time) length) (λ a. refl)
+once_effect b o s (Some (Join twa toa officer distance)) k =
+    once_change b o (is_authority toa.0) (with_agreed twa) (λ a. refl)
 once_effect b o s (Some (BookOut g paper)) k = once_beside b o b.blocks _
 once_effect b o s (Some (BookIn g paper certified new)) k = once_beside b o b.blocks _
 
 once_step : (b : Board) (s : Seven) (room : ℕ) → Once b → (z : Bool) → eqb (answer b s room) 0 ≡ z
     → Once (cond z (Rattle.rules.specs.Board.with_stamp s.day s.time (effect b (named s))) b)
 once_step b s room o true e =
-    let k : Once (effect b (named s)) = once_effect b o s (named s) (accepted b s room (eqb-true (answer b s room) 0 e)) in
-    record { authorities = k.authorities; trains = k.trains; live = k.live; running = k.running; last = k.last; allotted = k.allotted }
+    let k : Once (effect b (named s)) =
+    once_effect b o s (named s) (accepted b s room (eqb-true (answer b s room) 0 e)) in
+    record {
+      authorities = k.authorities;
+      trains = k.trains;
+      live = k.live;
+      running = k.running;
+      last = k.last;
+      allotted = k.allotted;
+    }
 once_step b s room o false e = o
 
 -- THEOREM: every call keeps it, accepted or refused, and so does every list of calls; a freshly opened board has it
@@ -185,7 +214,14 @@ once_final b (m ∷ ms) o = once_final (after b m.seven m.room) ms (once_after b
 
 pub once_opened : (portions : ℕ) (gates : List Gate) → Once (opened portions gates)
 unfolding opened Ascending
-once_opened portions gates = record { authorities = tt; trains = tt; live = omega arith; running = omega arith; last = omega arith; allotted = λ a m. elim m [ ] }
+once_opened portions gates = record {
+  authorities = tt;
+  trains = tt;
+  live = omega arith;
+  running = omega arith;
+  last = omega arith;
+  allotted = λ a m. elim m [ ];
+}
 
 pub once_open : (text : List ℕ) → Once (open_board text)
 once_open text = let o = fresh text in subst Once (sym o.is_opened) (once_opened o.portions o.gates)
@@ -194,10 +230,12 @@ once_open text = let o = fresh text in subst Once (sym o.is_opened) (once_opened
 
 -- THEOREM: "each live authority and each train on the board is held once": no two have the same number
 pub held_once : (b : Board) → Once b → Distinct authority_no b.authorities × Distinct train_no b.trains
-held_once b o = (ascending_distinct authority_no b.authorities o.authorities, ascending_distinct train_no b.trains o.trains)
+held_once b o =
+    (ascending_distinct authority_no b.authorities o.authorities, ascending_distinct train_no b.trains o.trains)
 
 -- THEOREM, order 5: on a board opened from any plan text, after any list of calls, live authorities and trains are held
 -- by ascending number
 pub held_ascending : (text : List ℕ) (ms : List Made)
-    → Ascending authority_no (final (open_board text) ms).authorities × Ascending train_no (final (open_board text) ms).trains
+    → Ascending authority_no (final (open_board text) ms).authorities
+    × Ascending train_no (final (open_board text) ms).trains
 held_ascending text ms = let o = once_final (open_board text) ms (once_open text) in (o.authorities, o.trains)

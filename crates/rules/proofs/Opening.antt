@@ -46,7 +46,8 @@ fresh_if text true e = record {
   few_gates = rw (gates_count (plan_number 1 text) (drop 19 text)) (search (told, leb-true, e));
   is_opened = refl;
 }
-fresh_if text false e = record { portions = 0; gates = []; few_portions = omega arith; few_gates = omega arith; is_opened = refl }
+fresh_if text false e =
+    record { portions = 0; gates = []; few_portions = omega arith; few_gates = omega arith; is_opened = refl }
 
 -- THEOREM: whatever the text, the board is freshly opened
 pub fresh : (text : List ℕ) → Fresh (open_board text)

@@ -82,7 +82,8 @@ module _ (b : Board) (r : Reckoning.Reckoning) (F : Follows b r) where
   unfolding not_live
   is_live n h = not-false (live b n) h
 
-  pub held_there : (n : ℕ) → Forced r.authority n → (a : Authority) × Member a b.authorities × (authority_no a ≡ n) × Held r.requests (r.authority n) a
+  pub held_there : (n : ℕ) → Forced r.authority n
+      → (a : Authority) × Member a b.authorities × (authority_no a ≡ n) × Held r.requests (r.authority n) a
   held_there n f =
       let (a, m, e) = F.there n f in
       (a, m, e, subst (λ (k : ℕ). Held r.requests (r.authority k) a) e (F.held a m))
@@ -129,23 +130,31 @@ held_anew x y a c h n k l ky fy ly f v g = record {
   agreement = g;
 }
 
-pub held_sited : {requests : ℕ} (x : Reckoned) (on : Bool) (a : Authority) → Held requests x a → Held requests (as_sited on x) (with_site on a)
-held_sited x on a h = held_anew x (as_sited on x) a (with_site on a) h refl refl refl refl refl refl h.force (λ e. refl) h.agreement
+pub held_sited : {requests : ℕ} (x : Reckoned) (on : Bool) (a : Authority) → Held requests x a
+    → Held requests (as_sited on x) (with_site on a)
+held_sited x on a h =
+    held_anew x (as_sited on x) a (with_site on a) h refl refl refl refl refl refl h.force (λ e. refl) h.agreement
 
 module _ (b : Board) (r : Reckoning.Reckoning) (F : Follows b r) (S : Safe b.gates r) (s : Seven) where
   -- ---- REQUEST
 
-  pub keeps_request : (kind : Kind) (first last officer : ℕ) → Accepted b s (Some (Request kind first last officer)) → Keeps b r (Some (Request kind first last officer))
+  pub keeps_request : (kind : Kind) (first last officer : ℕ) → Accepted b s (Some (Request kind first last officer))
+      → Keeps b r (Some (Request kind first last officer))
   unfolding effect reckon
   keeps_request kind first last officer ok = record {
     follows =
         record {
           requests = ap suc F.requests;
           portions = F.portions;
-          held = λ a m. ⊎_elim (old_held a) (λ e. is_new a (Memᴰ.eq_of_singleton e)) (Memᴰ.append_cases b.authorities m);
-          rests = λ a m z. ⊎_elim (λ k. old_rests a k z) (λ e. absurd (z (ap (λ (o : Authority). o.agreed.0) (Memᴰ.eq_of_singleton e)))) (Memᴰ.append_cases b.authorities m);
+          held =
+              λ a m. ⊎_elim (old_held a) (λ e. is_new a (Memᴰ.eq_of_singleton e)) (Memᴰ.append_cases b.authorities m);
+          rests =
+              λ a m z. ⊎_elim (λ k. old_rests a k z)
+              (λ e. absurd (z (ap (λ (o : Authority). o.agreed.0) (Memᴰ.eq_of_singleton e))))
+              (Memᴰ.append_cases b.authorities m);
           since =
-              put_all (λ (m : ℕ) (y : Reckoned). y.is_in_force ≡ true → y.since ≤ r.grants) n x r.authority (λ f. absurd (unused f))
+              put_all (λ (m : ℕ) (y : Reckoned). y.is_in_force ≡ true → y.since ≤ r.grants) n x r.authority
+              (λ f. absurd (unused f))
               (λ m ne f. F.since m f);
           there = λ m f. let (a, k, e) = F.there m (was_forced m f) in (a, Memᴰ.append_left (fresh ∷ []) k, e);
           placed = F.placed;
@@ -154,7 +163,8 @@ module _ (b : Board) (r : Reckoning.Reckoning) (F : Follows b r) (S : Safe b.gat
           gates = F.gates;
           blocked = F.blocked;
           unallotted =
-              put_all (λ (m : ℕ) (y : Reckoned). n < m → (y.agreed ≡ 0) × (y.joined ≡ 0)) n x r.authority (λ l. absurd (omega arith))
+              put_all (λ (m : ℕ) (y : Reckoned). n < m → (y.agreed ≡ 0) × (y.joined ≡ 0)) n x r.authority
+              (λ l. absurd (omega arith))
               (λ m ne l. F.unallotted m (omega arith));
         };
     safe = safe_quieter b.gates r S n n x (λ f. absurd (unused f));
@@ -175,7 +185,9 @@ module _ (b : Board) (r : Reckoning.Reckoning) (F : Follows b r) (S : Safe b.gat
           omega (arith, (F.held a m).allotted, e)
 
       was_forced : (m : ℕ) → Forced (put n x r.authority) m → Forced r.authority m
-      was_forced = put_all (λ (m : ℕ) (y : Reckoned). y.is_in_force ≡ true → Forced r.authority m) n x r.authority (λ f. f) (λ m ne f. f)
+      was_forced =
+          put_all (λ (m : ℕ) (y : Reckoned). y.is_in_force ≡ true → Forced r.authority m) n x r.authority (λ f. f)
+          (λ m ne f. f)
 
       new_held : Held n x fresh
       new_held = record {
@@ -193,13 +205,16 @@ module _ (b : Board) (r : Reckoning.Reckoning) (F : Follows b r) (S : Safe b.gat
 
       is_new : (a : Authority) → a ≡ fresh → Held n (put n x r.authority (authority_no a)) a
       is_new a e =
-          let at : put n x r.authority (suc b.last) ≡ x = ap (put n x r.authority) (ap suc F.requests) ∙ put_same n x r.authority in
-          subst (λ (o : Authority). Held n (put n x r.authority (authority_no o)) o) (sym e) (subst (λ (y : Reckoned). Held n y fresh) (sym at) new_held)
+          let at : put n x r.authority (suc b.last) ≡ x =
+          ap (put n x r.authority) (ap suc F.requests) ∙ put_same n x r.authority in
+          subst (λ (o : Authority). Held n (put n x r.authority (authority_no o)) o) (sym e)
+          (subst (λ (y : Reckoned). Held n y fresh) (sym at) new_held)
 
       old_held : (a : Authority) → Member a b.authorities → Held n (put n x r.authority (authority_no a)) a
       old_held a m =
           let h = F.held a m in
-          subst (λ (y : Reckoned). Held n y a) (sym (put_other n x r.authority (authority_no a) (λ e. omega (arith, h.allotted))))
+          subst (λ (y : Reckoned). Held n y a)
+          (sym (put_other n x r.authority (authority_no a) (λ e. omega (arith, h.allotted))))
           (record {
             positive = h.positive;
             allotted = omega (arith, h.allotted);
@@ -215,12 +230,15 @@ module _ (b : Board) (r : Reckoning.Reckoning) (F : Follows b r) (S : Safe b.gat
 
       old_rests : (a : Authority) → Member a b.authorities → Rests n (put n x r.authority) a.kind a.agreed.0
       old_rests a m z =
-          let t = F.rests a m z in
-          (ap (λ (y : Reckoned). y.kind) (put_other n x r.authority a.agreed.0 (λ e. omega (arith, t.1))) ∙ t.0, omega (arith, t.1))
+          let t = F.rests a m z in (
+            ap (λ (y : Reckoned). y.kind) (put_other n x r.authority a.agreed.0 (λ e. omega (arith, t.1))) ∙ t.0,
+            omega (arith, t.1),
+          )
 
   -- ---- WITHDRAW, HAND OVER, TERM, BOOK OUT and BOOK IN: nothing is reckoned
 
-  pub keeps_withdraw : (n : AuthorityNo) (officer : ℕ) → Accepted b s (Some (Withdraw n officer)) → Keeps b r (Some (Withdraw n officer))
+  pub keeps_withdraw : (n : AuthorityNo) (officer : ℕ) → Accepted b s (Some (Withdraw n officer))
+      → Keeps b r (Some (Withdraw n officer))
   unfolding effect reckon own condition_at
   keeps_withdraw n officer ok = record {
     follows =
@@ -232,7 +250,8 @@ module _ (b : Board) (r : Reckoning.Reckoning) (F : Follows b r) (S : Safe b.gat
           since = F.since;
           there =
               λ m f. there_ended n.0 b.authorities m
-              (λ e. pending b r F n.0 (is_live b r F n.0 (ok.ok 5)) (ok.ok 6) (subst (Forced r.authority) e f)) (F.there m f);
+              (λ e. pending b r F n.0 (is_live b r F n.0 (ok.ok 5)) (ok.ok 6) (subst (Forced r.authority) e f))
+              (F.there m f);
           placed = F.placed;
           runs = F.runs;
           blocks = F.blocks;
@@ -257,15 +276,18 @@ module _ (b : Board) (r : Reckoning.Reckoning) (F : Follows b r) (S : Safe b.gat
   keeps_term n day time length = record {
     follows =
         follows_unreckoned b r F n.0 (with_term (minute_of day time) length) (λ a. refl) (λ a. refl) (λ a. refl)
-        (λ a x h. held_anew x x a (with_term (minute_of day time) length a) h refl refl refl refl refl refl h.force h.site h.agreement);
+        (λ a x h. held_anew x x a
+        (with_term (minute_of day time) length a) h refl refl refl refl refl refl h.force h.site h.agreement);
     safe = S;
   }
 
   pub keeps_book_out : (g : GateNo) (paper : PaperNo) → Keeps b r (Some (BookOut g paper))
   unfolding effect reckon
-  keeps_book_out g paper = record { follows = follows_beside b r F b.day b.time (set b.bookings g.0 (booked_out paper)); safe = S }
+  keeps_book_out g paper =
+      record { follows = follows_beside b r F b.day b.time (set b.bookings g.0 (booked_out paper)); safe = S }
 
-  pub keeps_book_in : (g : GateNo) (paper : PaperNo) (certified : Bool) (new : PaperNo) → Keeps b r (Some (BookIn g paper certified new))
+  pub keeps_book_in : (g : GateNo) (paper : PaperNo) (certified : Bool) (new : PaperNo)
+      → Keeps b r (Some (BookIn g paper certified new))
   unfolding effect reckon
   keeps_book_in g paper certified new = record {
     follows = follows_beside b r F b.day b.time (set b.bookings g.0 (booked_in paper certified new));
@@ -277,7 +299,8 @@ module _ (b : Board) (r : Reckoning.Reckoning) (F : Follows b r) (S : Safe b.gat
   -- `taker`, pending, records the agreement of the officer of `by`, which is of the kind that can give it, and is
   -- reckoned as x: as it was, but for the agreement
   module _ (by taker : AuthorityNo) (x : Reckoned) (live-by : live b by.0 ≡ true) (live-taker : live b taker.0 ≡ true)
-      (waits : is_in_force (authority b taker.0) ≡ false) (gives : (authority b by.0).kind ≡ giver (authority b taker.0).kind) where
+      (waits : is_in_force (authority b taker.0) ≡ false)
+      (gives : (authority b by.0).kind ≡ giver (authority b taker.0).kind) where
     abbrev y : Reckoned
     y = r.authority taker.0
 
@@ -285,23 +308,30 @@ module _ (b : Board) (r : Reckoning.Reckoning) (F : Follows b r) (S : Safe b.gat
     taker-kind : (a : Authority) → y.kind ≡ a.kind → a.kind ≡ (authority b taker.0).kind
     taker-kind a k = sym k ∙ (here b r F taker.0 live-taker).kind
 
-    pub follows_recorded : x.kind ≡ y.kind → x.first ≡ y.first → x.last ≡ y.last → x.is_in_force ≡ y.is_in_force → x.has_workers_on ≡ y.has_workers_on
+    pub follows_recorded : x.kind ≡ y.kind → x.first ≡ y.first → x.last ≡ y.last → x.is_in_force ≡ y.is_in_force
+        → x.has_workers_on ≡ y.has_workers_on
         → agreement x ≡ by.0
-        → Follows (with_authorities (amended taker.0 (with_agreed by) b.authorities) b) (reckoned_as r r.requests r.grants taker.0 x)
+        → Follows (with_authorities (amended taker.0 (with_agreed by) b.authorities) b)
+        (reckoned_as r r.requests r.grants taker.0 x)
     follows_recorded ke fe le fo wo ag =
         follows_amended b r F taker.0 (with_agreed by) x r.grants (λ a. refl) ke
         (λ a h.
         held_anew y x a (with_agreed by a) h refl refl refl ke fe le (fo ∙ h.force) (λ e. wo ∙ h.site e) ag)
         (λ a m e z. (
-          (here b r F by.0 live-by).kind ∙ gives ∙ ap giver (sym (taker-kind a (ap (λ (i : ℕ). (r.authority i).kind) (sym e) ∙ (F.held a m).kind))),
+          (here b r F by.0 live-by).kind ∙ gives
+              ∙ ap giver (sym (taker-kind a (ap (λ (i : ℕ). (r.authority i).kind) (sym e) ∙ (F.held a m).kind))),
           subst (λ (k : ℕ). k ≤ r.requests) (authority_there b by.0 live-by).1 (here b r F by.0 live-by).allotted,
         ))
-        (there b r F taker.0 live-taker) (omega arith) (λ f. absurd (pending b r F taker.0 live-taker waits (sym fo ∙ f)))
+        (there b r F taker.0 live-taker) (omega arith)
+        (λ f. absurd (pending b r F taker.0 live-taker waits (sym fo ∙ f)))
 
     pub safe_recorded : x.is_in_force ≡ y.is_in_force → Safe b.gates (reckoned_as r r.requests r.grants taker.0 x)
-    safe_recorded fo = safe_quieter b.gates r S r.requests taker.0 x (λ f. absurd (pending b r F taker.0 live-taker waits (sym fo ∙ f)))
+    safe_recorded fo =
+        safe_quieter b.gates r S r.requests taker.0 x
+        (λ f. absurd (pending b r F taker.0 live-taker waits (sym fo ∙ f)))
 
-  pub keeps_agree : (toa twa : AuthorityNo) (officer : ℕ) → Accepted b s (Some (Agree toa twa officer)) → Keeps b r (Some (Agree toa twa officer))
+  pub keeps_agree : (toa twa : AuthorityNo) (officer : ℕ) → Accepted b s (Some (Agree toa twa officer))
+      → Keeps b r (Some (Agree toa twa officer))
   unfolding effect reckon own condition_at not_to_agree
   keeps_agree toa twa officer ok =
       let x : Reckoned = as_agreed toa.0 (r.authority twa.0) in
@@ -318,7 +348,8 @@ module _ (b : Board) (r : Reckoning.Reckoning) (F : Follows b r) (S : Safe b.gat
         safe = safe_recorded toa twa x l1 l2 waits gives refl;
       }
 
-  pub keeps_join : (twa toa : AuthorityNo) (officer distance : ℕ) → Accepted b s (Some (Join twa toa officer distance)) → Keeps b r (Some (Join twa toa officer distance))
+  pub keeps_join : (twa toa : AuthorityNo) (officer distance : ℕ) → Accepted b s (Some (Join twa toa officer distance))
+      → Keeps b r (Some (Join twa toa officer distance))
   unfolding effect reckon own condition_at not_to_join
   keeps_join twa toa officer distance ok =
       let x : Reckoned = as_joined twa.0 (r.authority toa.0) in
@@ -337,7 +368,8 @@ module _ (b : Board) (r : Reckoning.Reckoning) (F : Follows b r) (S : Safe b.gat
 
   -- ---- CLEAR and FULFIL
 
-  pub keeps_clear : (n : AuthorityNo) (officer : ℕ) → Accepted b s (Some (Clear n officer)) → Keeps b r (Some (Clear n officer))
+  pub keeps_clear : (n : AuthorityNo) (officer : ℕ) → Accepted b s (Some (Clear n officer))
+      → Keeps b r (Some (Clear n officer))
   unfolding effect reckon own condition_at
   keeps_clear n officer ok = record {
     follows =
@@ -346,7 +378,16 @@ module _ (b : Board) (r : Reckoning.Reckoning) (F : Follows b r) (S : Safe b.gat
         (omega arith) (F.since n.0);
     safe =
         safe_quieter b.gates r S r.requests n.0 (as_sited false (r.authority n.0))
-        (λ f. record { force = f; kind = refl; first = refl; last = refl; since = refl; agreed = refl; joined = refl; site = λ e. absurd (false≢true e) });
+        (λ f. record {
+          force = f;
+          kind = refl;
+          first = refl;
+          last = refl;
+          since = refl;
+          agreed = refl;
+          joined = refl;
+          site = λ e. absurd (false≢true e);
+        });
   }
 
   pub keeps_fulfil : (n : AuthorityNo) (officer assurances : ℕ) → Keeps b r (Some (Fulfil n officer assurances))
@@ -356,9 +397,12 @@ module _ (b : Board) (r : Reckoning.Reckoning) (F : Follows b r) (S : Safe b.gat
         follows_trains (with_authorities (ended n.0 b.authorities) b)
         (Reckoning.with_authorities (put n.0 (as_ended (r.authority n.0)) r.authority) r) (follows_ended b r F n.0)
         (freed n.0 b.trains) r.train
-        (change_each (λ (t : Train). Placed (r.train (train_no t)) t) (is_with n.0) (with_authority (authority_of 0)) b.trains (λ t m e. F.placed t m)
-        (λ t m e. let h = F.placed t m in record { on_board = h.on_board; head = h.head; rear = h.rear; under = λ z. absurd (z refl) }))
-        (λ t on. taken_change train_no (is_with n.0) (with_authority (authority_of 0)) (λ t. refl) b.trains t (F.runs t on));
+        (change_each (λ (t : Train). Placed (r.train (train_no t)) t) (is_with n.0)
+        (with_authority (authority_of 0)) b.trains (λ t m e. F.placed t m)
+        (λ t m e. let h = F.placed t m in
+        record { on_board = h.on_board; head = h.head; rear = h.rear; under = λ z. absurd (z refl) }))
+        (λ t on. taken_change train_no (is_with n.0) (with_authority (authority_of 0)) (λ t. refl) b.trains t
+        (F.runs t on));
     safe = safe_quieter b.gates r S r.requests n.0 (as_ended (r.authority n.0)) (λ f. absurd (false≢true f));
   }
 
@@ -378,13 +422,17 @@ module _ (b : Board) (r : Reckoning.Reckoning) (F : Follows b r) (S : Safe b.gat
           placed = F.placed;
           runs = F.runs;
           blocks =
-              λ h e. ⊎_elim (λ (q : h ≡ g.0). ap (put g.0 true r.blocked) q ∙ put_same g.0 true r.blocked) (λ k. more h (F.blocks h k))
+              λ h e. ⊎_elim (λ (q : h ≡ g.0). ap (put g.0 true r.blocked) q ∙ put_same g.0 true r.blocked)
+              (λ k. more h (F.blocks h k))
               (in_insert g.0 b.blocks h e);
           gates = F.gates;
           blocked =
-              put_all (λ (h : ℕ) (y : Bool). y ≡ true → (h < 64) × (has h (insert g.0 b.blocks) ≡ true)) g.0 true r.blocked
-              (λ e. let l : g.0 < 64 = omega (arith, ok.ranges, F.gates) in (l, insert_below g.0 b.blocks g.0 l ∙ rw (eq-eqb g.0 g.0 refl)))
-              (λ h ne e. let k = F.blocked h e in (k.0, insert_below g.0 b.blocks h k.0 ∙ or_right (eqb h g.0) (has h b.blocks) k.1));
+              put_all (λ (h : ℕ) (y : Bool). y ≡ true
+              → (h < 64) × (has h (insert g.0 b.blocks) ≡ true)) g.0 true r.blocked
+              (λ e. let l : g.0 < 64 = omega (arith, ok.ranges, F.gates) in
+              (l, insert_below g.0 b.blocks g.0 l ∙ rw (eq-eqb g.0 g.0 refl)))
+              (λ h ne e. let k = F.blocked h e in
+              (k.0, insert_below g.0 b.blocks h k.0 ∙ or_right (eqb h g.0) (has h b.blocks) k.1));
           unallotted = F.unallotted;
         };
     safe =
@@ -411,7 +459,8 @@ module _ (b : Board) (r : Reckoning.Reckoning) (F : Follows b r) (S : Safe b.gat
           blocks = λ h e. let k = in_remove g.0 b.blocks h e in put_other g.0 false r.blocked h k.0 ∙ F.blocks h k.1;
           gates = F.gates;
           blocked =
-              put_all (λ (h : ℕ) (y : Bool). y ≡ true → (h < 64) × (has h (remove g.0 b.blocks) ≡ true)) g.0 false r.blocked
+              put_all (λ (h : ℕ) (y : Bool). y ≡ true
+              → (h < 64) × (has h (remove g.0 b.blocks) ≡ true)) g.0 false r.blocked
               (λ e. absurd (false≢true e))
               (λ h ne e. let k = F.blocked h e in (k.0, remove_below g.0 b.blocks h k.0 ∙ rw (ne_eqb h g.0 ne) k.1));
           unallotted = F.unallotted;
@@ -421,7 +470,8 @@ module _ (b : Board) (r : Reckoning.Reckoning) (F : Follows b r) (S : Safe b.gat
           apart = S.apart;
           piloted = S.piloted;
           untouched = S.untouched;
-          protected = λ n h f l i o. put_other g.0 false r.blocked h (λ e. unneeded n h e f i o) ∙ S.protected n h f l i o;
+          protected =
+              λ n h f l i o. put_other g.0 false r.blocked h (λ e. unneeded n h e f i o) ∙ S.protected n h f l i o;
         };
   }
     where
@@ -435,7 +485,9 @@ module _ (b : Board) (r : Reckoning.Reckoning) (F : Follows b r) (S : Safe b.gat
           let (a, m, e, k) = held_there b r F n f in
           let none : in_force_needs gate a ≡ false = any_no (in_force_needs gate) b.authorities (ok.ok 16) a m in
           let force : is_in_force a ≡ true = sym k.force ∙ f in
-          let to : has gate.to a.limits ≡ true = k.from gate.to (subst (λ (j : ℕ). In (r.authority n) (gate_at b.gates j).to) same i) in
+          let to : has gate.to a.limits ≡ true =
+          k.from gate.to (subst (λ (j : ℕ). In (r.authority n) (gate_at b.gates j).to) same i) in
           let need : (has gate.to a.limits && not (has gate.from a.limits)) ≡ false = search (shown, none) in
           let from : not (has gate.from a.limits) ≡ false = search (shown, need) in
-          o (subst (λ (j : ℕ). In (r.authority n) (gate_at b.gates j).from) (sym same) (k.into gate.from (search (told, from))))
+          o (subst (λ (j : ℕ). In (r.authority n) (gate_at b.gates j).from) (sym same)
+          (k.into gate.from (search (told, from))))

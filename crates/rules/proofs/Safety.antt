@@ -36,7 +36,8 @@ use Rattle.rules.proofs.Moving.{keeps_move, keeps_passed}
 
 -- ---- any accepted call
 
-keeps : (b : Board) (r : Reckoning) → Follows b r → Safe b.gates r → (s : Seven) (c : Option Call) → Accepted b s c → Keeps b r c
+keeps : (b : Board) (r : Reckoning) → Follows b r → Safe b.gates r → (s : Seven) (c : Option Call) → Accepted b s c
+    → Keeps b r c
 keeps b r F S s None k = absurd k.ranges
 keeps b r F S s (Some (Request kind first last officer)) k = keeps_request b r F S s kind first last officer k
 keeps b r F S s (Some (Withdraw n officer)) k = keeps_withdraw b r F S s n officer k
@@ -48,7 +49,8 @@ keeps b r F S s (Some (Clear n officer)) k = keeps_clear b r F S s n officer k
 keeps b r F S s (Some (Reoccupy n officer)) k = keeps_reoccupy b r F S s n officer k
 keeps b r F S s (Some (HandOver n out into)) k = keeps_hand_over b r F S s n out into
 keeps b r F S s (Some (Fulfil n officer assurances)) k = keeps_fulfil b r F S s n officer assurances
-keeps b r F S s (Some (Continue old new officer_old officer_new)) k = keeps_continue b r F S s old new officer_old officer_new k
+keeps b r F S s (Some (Continue old new officer_old officer_new)) k =
+    keeps_continue b r F S s old new officer_old officer_new k
 keeps b r F S s (Some (Move t g n officer)) k = keeps_move b r F S s t g n officer k
 keeps b r F S s (Some (Passed t)) k = keeps_passed b r F S s t k
 keeps b r F S s (Some (Term n day time length)) k = keeps_term b r F S s n day time length
@@ -87,17 +89,20 @@ pub record Holds (gates : List Gate) (last : Board) (r : Reckoning) : Type 0 whe
   pub follows : Follows last r
 
 list_step : (b : Board) (r : Reckoning) (m : Made) (ms : List Made)
-    → ((b' : Board) (r' : Reckoning) → Follows b' r' → Safe b'.gates r' → Holds b'.gates (final b' ms) (reckoned b'.gates r' (trace b' ms)))
+    → ((b' : Board) (r' : Reckoning) → Follows b' r' → Safe b'.gates r'
+    → Holds b'.gates (final b' ms) (reckoned b'.gates r' (trace b' ms)))
     → Follows b r → Safe b.gates r → (z : Bool) → eqb (answer b m.seven m.room) 0 ≡ z
     → let b' = cond z (with_stamp m.seven.day m.seven.time (effect b (named m.seven))) b in
     Holds b.gates (final b' ms) (reckoned b.gates (cond z (reckon b.gates r (named m.seven)) r) (trace b' ms))
 list_step b r m ms ih F S true e =
     let c : Option Call = named m.seven in
-    let k : Keeps b r c = keeps b r F S m.seven c (accepted b m.seven m.room (eqb-true (answer b m.seven m.room) 0 e)) in
+    let k : Keeps b r c =
+    keeps b r F S m.seven c (accepted b m.seven m.room (eqb-true (answer b m.seven m.room) 0 e)) in
     let b' : Board = with_stamp m.seven.day m.seven.time (effect b c) in
     let r' : Reckoning = reckon b.gates r c in
     subst (λ (gs : List Gate). Holds gs (final b' ms) (reckoned gs r' (trace b' ms))) (gates_stay b c)
-    (ih b' r' (follows_beside (effect b c) r' k.follows m.seven.day m.seven.time (effect b c).bookings) (subst (λ (gs : List Gate). Safe gs r') (sym (gates_stay b c)) k.safe))
+    (ih b' r' (follows_beside (effect b c) r' k.follows m.seven.day m.seven.time (effect b c).bookings)
+    (subst (λ (gs : List Gate). Safe gs r') (sym (gates_stay b c)) k.safe))
 list_step b r m ms ih F S false e = ih b r F S
 
 list_holds : (ms : List Made) (b : Board) (r : Reckoning) → Follows b r → Safe b.gates r
@@ -106,7 +111,8 @@ unfolding reckoned trace final after
 list_holds [] b r F S = record { safe = S; follows = F }
 list_holds (m ∷ ms) b r F S = list_step b r m ms (list_holds ms) F S (eqb (answer b m.seven m.room) 0) refl
 
-opened_follows : (portions : ℕ) (gates : List Gate) → portions ≤ 64 → length gates ≤ 64 → Follows (opened portions gates) start
+opened_follows : (portions : ℕ) (gates : List Gate) → portions ≤ 64 → length gates ≤ 64
+    → Follows (opened portions gates) start
 unfolding opened
 opened_follows portions gates h few = record {
   requests = refl;
@@ -127,10 +133,12 @@ opened_follows portions gates h few = record {
 pub opened_holds : (portions : ℕ) (gates : List Gate) → portions ≤ 64 → length gates ≤ 64 → (ms : List Made)
     → Holds gates (final (opened portions gates) ms) (reckoned gates start (trace (opened portions gates) ms))
 unfolding opened
-opened_holds portions gates h few ms = list_holds ms (opened portions gates) start (opened_follows portions gates h few) (safe_start gates)
+opened_holds portions gates h few ms =
+    list_holds ms (opened portions gates) start (opened_follows portions gates h few) (safe_start gates)
 
 text_holds : (text : List ℕ) (ms : List Made)
-    → Holds (open_board text).gates (final (open_board text) ms) (reckoned (open_board text).gates start (trace (open_board text) ms))
+    → Holds (open_board text).gates (final (open_board text) ms)
+    (reckoned (open_board text).gates start (trace (open_board text) ms))
 unfolding opened
 text_holds text ms =
     let o = fresh text in

@@ -35,7 +35,8 @@ use Rattle.rules.proofs.Agreements.{list_agreements}
 -- ---- first and last are those of the REQUEST
 
 -- an authority that is as it is reckoned
-held_ends : {requests : ℕ} (x : Reckoned) (a : Authority) → Held requests x a → (least a.limits ≡ x.first) × (greatest a.limits ≡ x.last)
+held_ends : {requests : ℕ} (x : Reckoned) (a : Authority) → Held requests x a
+    → (least a.limits ≡ x.first) × (greatest a.limits ≡ x.last)
 held_ends x a h = (
   least_is a.limits x.first (omega (arith, h.first, h.last)) (h.from x.first (omega (arith, h.first)))
       (λ q below. ⊎_elim (λ e. absurd (omega (arith, h.into q e))) (λ e. e) (truth (has q a.limits))),
@@ -73,7 +74,8 @@ pub record Ascend (b : Board) (i j : ℕ) : Type 0 where
   pub ascend : authority_no upper < authority_no lower
 
 -- THEOREM: of any two lines of live authorities the upper has the lower number
-pub lines_ascend : (b : Board) → Ascending authority_no b.authorities → (i j : ℕ) → i < j → j < length b.authorities → Ascend b i j
+pub lines_ascend : (b : Board) → Ascending authority_no b.authorities → (i j : ℕ) → i < j → j < length b.authorities
+    → Ascend b i j
 unfolding sheet_lines
 lines_ascend b u i j l k = record {
   upper = get_or b.authorities i no_authority;
@@ -87,7 +89,8 @@ lines_ascend b u i j l k = record {
 
 -- THEOREM: on a board opened from any plan text, after any list of calls, the ninth column of each live authority's
 -- line is the number that its last AGREE or JOIN names, 0 for none: read off the calls and answers alone
-pub agreement_shown : (text : List ℕ) (ms : List Made) (now : ℕ) (a : Authority) → Member a (final (open_board text) ms).authorities
+pub agreement_shown : (text : List ℕ) (ms : List Made) (now : ℕ) (a : Authority)
+    → Member a (final (open_board text) ms).authorities
     → let x = (reckoned (open_board text).gates start (trace (open_board text) ms)).authority (authority_no a) in
     get_or (authority_cells now a) 8 Empty ≡ Number (agreement x)
 unfolding authority_cells
@@ -162,5 +165,7 @@ last_night_bytes =
     "       1      1       2       3      42       2       1      -55       0\n       3      2       0       1      63       2       1                0\n       4      3       1       1       7       2       2                3\n    9999      1      63      63     999       1       2                0\n        4        3                                                      \n"
 
 pub last_night-sheet : sheet last_night ≡ last_night_bytes
-unfolding sheet page_of sheet_lines authority_line authority_cells minutes_in_hand difference total_line total_cells held_portions cell_line cell marks digits digits_in least greatest size first last below has set_of run minute_of last_night_bytes bytes
+unfolding sheet page_of sheet_lines authority_line authority_cells minutes_in_hand difference total_line total_cells
+    held_portions cell_line cell marks digits digits_in least greatest size first last below has set_of run minute_of
+    last_night_bytes bytes
 last_night-sheet = refl

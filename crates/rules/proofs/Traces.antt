@@ -9,7 +9,8 @@ use Rattle.rules.specs.Step.{Made, Answered, after, trace, final}
 abbrev pub answered_on : Board → Made → Answered
 answered_on b m = record { seven = m.seven; answer = answer b m.seven m.room }
 
-pub trace_snoc : (b : Board) (ms : List Made) (m : Made) → trace b (ms ++ (m ∷ [])) ≡ trace b ms ++ (answered_on (final b ms) m ∷ [])
+pub trace_snoc : (b : Board) (ms : List Made) (m : Made)
+    → trace b (ms ++ (m ∷ [])) ≡ trace b ms ++ (answered_on (final b ms) m ∷ [])
 unfolding trace final
 trace_snoc b [] m = refl
 trace_snoc b (k ∷ ms) m = ap (λ (l : List Answered). answered_on b k ∷ l) (trace_snoc (after b k.seven k.room) ms m)

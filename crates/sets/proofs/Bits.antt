@@ -116,8 +116,10 @@ has_up (suc p) (suc k) set = rw (has_half, shifted_half, leb-suc-suc, suc-sub-su
 pub has_power : (p n : ℕ) → has p (1 * 2 ^ n) ≡ eqb p n
 has_power p n =
     rw (has_up, has_ones 1)
-    (same_test _ _ (λ h. eq-eqb p n (omega (arith, leb-true n p (and_l _ _ h), ltb-true (p - n) 1 (and_r (leb n p) _ h))))
-    (λ h. let e : p ≡ n = eqb-true p n h in and_from (leb n p) _ (le-leb n p (omega arith)) (lt-ltb (p - n) 1 (omega arith))))
+    (same_test _ _
+    (λ h. eq-eqb p n (omega (arith, leb-true n p (and_l _ _ h), ltb-true (p - n) 1 (and_r (leb n p) _ h))))
+    (λ h. let e : p ≡ n = eqb-true p n h in
+    and_from (leb n p) _ (le-leb n p (omega arith)) (lt-ltb (p - n) 1 (omega arith))))
 
 -- ---- the same in words of 64 digits
 

@@ -37,7 +37,8 @@ least_most set = last_most 64 64 64 (is_member set) (le_refl 64) (le_refl 64)
 -- ---- the greatest member
 
 -- a member with none above it
-pub greatest_is : (set p : ℕ) → p < 64 → has p set ≡ true → ((q : ℕ) → p < q → q < 64 → has q set ≡ false) → greatest set ≡ p
+pub greatest_is : (set p : ℕ) → p < 64 → has p set ≡ true → ((q : ℕ) → p < q → q < 64 → has q set ≡ false)
+    → greatest set ≡ p
 unfolding greatest
 greatest_is set p l h none = first_below 64 64 (is_member set) p l h none
 
@@ -56,7 +57,8 @@ greatest_most set = first-most 64 64 64 (is_member set) (le_refl 64) (le_refl 64
 -- f is the least
 pub least-run : (f l : ℕ) → f ≤ l → l < 64 → least (run f l) ≡ f
 least-run f l h k =
-    least_is (run f l) f (omega arith) (run_in f l f (le_refl f) h (omega arith)) (λ q below. run_out f l q (λ a b. omega arith))
+    least_is (run f l) f (omega arith) (run_in f l f (le_refl f) h (omega arith))
+    (λ q below. run_out f l q (λ a b. omega arith))
 
 -- and l the greatest
 pub greatest-run : (f l : ℕ) → f ≤ l → l < 64 → greatest (run f l) ≡ l
@@ -71,7 +73,8 @@ unfolding count_trailing_zeros
 below_trailing zero set p h = absurd (not-suc-le-zero h)
 below_trailing (suc k) set zero h =
     has_odd set
-    ∙ digit (λ x. 0 < under x (count_trailing_zeros k (set / 2)) → eqb x 1 ≡ false) (λ l. refl) (λ l. absurd (not-suc-le-zero l)) set h
+    ∙ digit (λ x. 0 < under x (count_trailing_zeros k (set / 2)) → eqb x 1 ≡ false) (λ l. refl)
+    (λ l. absurd (not-suc-le-zero l)) set h
 below_trailing (suc k) set (suc p) h =
     has_half p set
     ∙ digit (λ x. suc p < under x (count_trailing_zeros k (set / 2)) → has p (set / 2) ≡ false)

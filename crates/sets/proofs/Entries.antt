@@ -37,7 +37,8 @@ entry rule n k h = entry_from rule 0 n k h ∙ rw zero-add
 -- from 63 on there is no other number below 64
 pub up_to_all : (n : ℕ) → 63 ≤ n → up_to 63 ≡ up_to n
 unfolding run up_to
-up_to_all n h = set_of_agree 64 (between 0 63) (between 0 n) (λ p l. rw (le-leb p 63 (omega arith), le-leb p n (omega arith)))
+up_to_all n h =
+    set_of_agree 64 (between 0 63) (between 0 n) (λ p l. rw (le-leb p 63 (omega arith), le-leb p n (omega arith)))
 
 -- ---- an entry shifted
 
@@ -47,11 +48,14 @@ between_shifted f l p h =
     same_test _ _
     (λ e. and_from (leb f p) (leb p l) (and_l (leb f p) _ e)
     (le-leb p l (omega (arith, leb-true f p (and_l (leb f p) _ e), leb-true (p - f) (l - f) (and_r (leb f p) _ e)))))
-    (λ e. and_from (leb f p) (leb (p - f) (l - f)) (and_l (leb f p) _ e) (le-leb (p - f) (l - f) (omega (arith, leb-true p l (and_r (leb f p) _ e)))))
+    (λ e. and_from (leb f p) (leb (p - f) (l - f)) (and_l (leb f p) _ e)
+    (le-leb (p - f) (l - f) (omega (arith, leb-true p l (and_r (leb f p) _ e)))))
 
 -- the numbers up to l less f, shifted by f, are the run from f to l
 pub run_shifted : (f l : ℕ) → f ≤ l → up_to (l - f) * 2 ^ f % 2 ^ 64 ≡ run f l
 unfolding run up_to
 run_shifted f l h =
     is_set_of 64 _ (between f l) (mod-lt _ (pow_pos 64))
-    (λ p k. has_shifted f p (up_to (l - f)) k ∙ rw (in_set_of 64 (between 0 (l - f)) (p - f) (omega arith), le-leb 0 (p - f) (omega arith)) (between_shifted f l p h))
+    (λ p k. has_shifted f p (up_to (l - f)) k
+    ∙ rw (in_set_of 64 (between 0 (l - f)) (p - f) (omega arith), le-leb 0 (p - f) (omega arith))
+    (between_shifted f l p h))

@@ -43,7 +43,8 @@ add_next true n set p h =
 add_next false n set p h = rw (zero-add, and-false)
 
 -- one number more: n is a member where it passes, and the others stay
-has_next : (n : ℕ) (test : ℕ → Bool) (p : ℕ) → has p (set_of (suc n) test) ≡ (eqb p n && test n) || has p (set_of n test)
+has_next : (n : ℕ) (test : ℕ → Bool) (p : ℕ)
+    → has p (set_of (suc n) test) ≡ (eqb p n && test n) || has p (set_of n test)
 unfolding set_of
 has_next n test p = add_next (test n) n (set_of n test) p (set_of_lt n test)
 
@@ -58,10 +59,12 @@ in_set_of (suc n) test p l =
 -- its members are the numbers below n that pass
 pub has-set_of : (n : ℕ) (test : ℕ → Bool) (p : ℕ) → has p (set_of n test) ≡ ltb p n && test p
 has-set_of n test p =
-    ⊎_elim (λ (l : p < n). in_set_of n test p l ∙ rw lt-ltb) (λ (l : n ≤ p). has_high n p _ (set_of_lt n test) l ∙ rw le-ltb) (lt_or_le p n)
+    ⊎_elim (λ (l : p < n). in_set_of n test p l ∙ rw lt-ltb)
+    (λ (l : n ≤ p). has_high n p _ (set_of_lt n test) l ∙ rw le-ltb) (lt_or_le p n)
 
 -- a set of numbers below n that has each where it passes is this one
-pub is_set_of : (n set : ℕ) (test : ℕ → Bool) → set < 2 ^ n → ((p : ℕ) → p < n → has p set ≡ test p) → set ≡ set_of n test
+pub is_set_of : (n set : ℕ) (test : ℕ → Bool) → set < 2 ^ n → ((p : ℕ) → p < n → has p set ≡ test p)
+    → set ≡ set_of n test
 is_set_of n set test h same =
     same_members n set (set_of n test) h (set_of_lt n test) (λ p l. same p l ∙ sym (in_set_of n test p l))
 
@@ -72,7 +75,8 @@ set_of_agree n f g same = is_set_of n (set_of n f) g (set_of_lt n f) (λ p l. in
 -- where no number from n on passes, every member is known by the test alone
 closed_set_of : (n : ℕ) (test : ℕ → Bool) (p : ℕ) → (n ≤ p → test p ≡ false) → has p (set_of n test) ≡ test p
 closed_set_of n test p out =
-    ⊎_elim (in_set_of n test p) (λ (l : n ≤ p). has_high n p (set_of n test) (set_of_lt n test) l ∙ sym (out l)) (lt_or_le p n)
+    ⊎_elim (in_set_of n test p) (λ (l : n ≤ p). has_high n p (set_of n test) (set_of_lt n test) l ∙ sym (out l))
+    (lt_or_le p n)
 
 -- ---- the run from f to l
 
@@ -103,7 +107,8 @@ run_out f l p out =
 
 -- with no number below 64 from f to l it is empty
 pub no_run : (f l : ℕ) → ((p : ℕ) → p < 64 → f ≤ p → p ≤ l → ⊥) → 0 ≡ run f l
-no_run f l out = same_members 64 0 (run f l) (pow_pos 64) (run_lt f l) (λ p h. has_none p ∙ sym (run_out f l p (out p h)))
+no_run f l out =
+    same_members 64 0 (run f l) (pow_pos 64) (run_lt f l) (λ p h. has_none p ∙ sym (run_out f l p (out p h)))
 
 -- ---- one member more, one less
 
@@ -149,7 +154,8 @@ pub set_of_next_in : (n : ℕ) (test : ℕ → Bool) → n < 64 → test n ≡ t
 unfolding insert
 set_of_next_in n test l e =
     rw add-one
-    (sym (is_set_of 64 (set_of (suc n) test) (is_or_in n (set_of n test)) (lt_of_lt_of_le (set_of_lt (suc n) test) (pow_mono l))
+    (sym (is_set_of 64 (set_of (suc n) test) (is_or_in n (set_of n test))
+    (lt_of_lt_of_le (set_of_lt (suc n) test) (pow_mono l))
     (λ p h. has_next n test p ∙ rw (e, and-true))))
 
 -- n does not pass: the set stays
@@ -218,14 +224,16 @@ subset_and a b h =
 count_next : (set n : ℕ) (l : List ℕ) → ones (set / 2 ^ n % 2) + length l ≡ length (cond (has n set) (n ∷ l) l)
 unfolding has ones
 count_next set n l =
-    digit (λ x. ones x + length l ≡ length (cond (eqb x 1) (n ∷ l) l)) (zero-add (length l)) (one-add (length l)) (set / 2 ^ n)
+    digit (λ x. ones x + length l ≡ length (cond (eqb x 1) (n ∷ l) l)) (zero-add (length l)) (one-add (length l))
+    (set / 2 ^ n)
 
 -- the ones among the digits below n are the members below n
 ones_below : (n set : ℕ) → ones (set % 2 ^ n) ≡ length (keep (is_member set) (below n))
 unfolding below
 ones_below zero set = rw mod-one (ones-ones 0)
 ones_below (suc n) set =
-    rw (← one-add n, mod-pow-add, ones_cat n (set / 2 ^ n % 2) (set % 2 ^ n) (mod-lt set (pow_pos n)), ones_below n set) (count_next set n _)
+    rw (← one-add n, mod-pow-add, ones_cat n (set / 2 ^ n % 2) (set % 2 ^ n) (mod-lt set (pow_pos n)), ones_below n set)
+    (count_next set n _)
 
 -- the count of ones is the number of members
 pub size-ones : (set : ℕ) → set < 2 ^ 64 → ones set ≡ size set

@@ -57,7 +57,8 @@ pick_in true x y h l = h
 pick_in false x y h l = l
 
 -- the minutes in hand of a term that starts within the days, from their length and from what is left of them
-pub minutes_none : (now : ℕ) (a : Authority) → a.length ≡ 0 → (Empty ≡ minutes_in_hand now a) × (cell_fits 9 Empty ≡ true)
+pub minutes_none : (now : ℕ) (a : Authority) → a.length ≡ 0
+    → (Empty ≡ minutes_in_hand now a) × (cell_fits 9 Empty ≡ true)
 unfolding minutes_in_hand
 minutes_none now a e = (rw (eq-eqb a.length 0 e), empty_fits 9)
 
@@ -70,13 +71,15 @@ minutes_some now a length c n m e s l h =
     (rw (ne_eqb a.length 0 n) d, rw d (difference_in (a.start + a.length) now (omega arith) h))
 
 -- the line of an authority: its cells are those of the definition, and each fits
-pub authority_line_lem : (now : ℕ) (a : Authority) (number kind first last officer stage site : ℕ) (minutes : Cell) (agreed : ℕ)
+pub authority_line_lem : (now : ℕ) (a : Authority) (number kind first last officer stage site : ℕ) (minutes : Cell)
+    (agreed : ℕ)
     → authority_no a < 65536 → a.officer < 65536 → a.agreed.0 < 65536
     → number ≡ authority_no a → kind ≡ kind_no a.kind → first ≡ least a.limits → last ≡ greatest a.limits
     → officer ≡ a.officer → stage ≡ stage_no a → site ≡ site_no a
     → (minutes ≡ minutes_in_hand now a) × (cell_fits 9 minutes ≡ true) → agreed ≡ a.agreed.0
     → let cells =
-    Number number ∷ Number kind ∷ Number first ∷ Number last ∷ Number officer ∷ Number stage ∷ Number site ∷ minutes ∷ Number agreed ∷ [] in
+    Number number ∷ Number kind ∷ Number first ∷ Number last ∷ Number officer ∷ Number stage ∷ Number site ∷ minutes
+    ∷ Number agreed ∷ [] in
     (cells ≡ authority_cells now a) × (cells_fit authority_widths cells ≡ true)
 unfolding cells_fit authority_cells
 authority_line_lem now a number kind first last officer stage site minutes agreed n o r b k f l w t s m g = (
@@ -97,7 +100,8 @@ unfolding minute_of
 now_small day time d t = omega arith
 
 -- a line of cells that fit has 73 bytes
-pub authority_73 : (cells : List Cell) → cells_fit authority_widths cells ≡ true → length (cell_line authority_widths cells) ≡ 73
+pub authority_73 : (cells : List Cell) → cells_fit authority_widths cells ≡ true
+    → length (cell_line authority_widths cells) ≡ 73
 unfolding total
 authority_73 cells e = cell_line-length authority_widths cells e
 
@@ -112,11 +116,14 @@ unfolding size below
 size_most set = length-keep (is_member set) (below 64)
 
 -- the counts of its first two cells are those of the definition, and each cell fits
-pub total_line_lem : (b : Board) (held blocked : ℕ) → held ≡ size (held_portions b.authorities) → blocked ≡ size b.blocks
-    → let cells = Number held ∷ Number blocked ∷ Empty ∷ [] in (cells ≡ total_cells b) × (cells_fit total_widths cells ≡ true)
+pub total_line_lem : (b : Board) (held blocked : ℕ) → held ≡ size (held_portions b.authorities)
+    → blocked ≡ size b.blocks
+    → let cells = Number held ∷ Number blocked ∷ Empty ∷ [] in
+    (cells ≡ total_cells b) × (cells_fit total_widths cells ≡ true)
 unfolding cells_fit total_cells
 total_line_lem b held blocked h g = (
   rw (h, g),
   and_from _ _ (number_in 9 held (omega arith) (omega (arith, size_most (held_portions b.authorities))))
-      (and_from _ _ (number_in 9 blocked (omega arith) (omega (arith, size_most b.blocks))) (and_from _ _ (empty_fits 54) refl)),
+      (and_from _ _ (number_in 9 blocked (omega arith) (omega (arith, size_most b.blocks)))
+      (and_from _ _ (empty_fits 54) refl)),
 )

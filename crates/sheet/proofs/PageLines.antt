@@ -67,7 +67,8 @@ begun_end ws cells whole at line e b =
 page_snoc : (lines : List (List ℕ)) (line : List ℕ) → page_of (lines ++ (line ∷ [])) ≡ page_of lines ++ line
 unfolding page_of
 page_snoc [] line = append-nil line
-page_snoc (l ∷ lines) line = ap (λ (t : List ℕ). l ++ t) (page_snoc lines line) ∙ sym (append_assoc l (page_of lines) line)
+page_snoc (l ∷ lines) line =
+    ap (λ (t : List ℕ). l ++ t) (page_snoc lines line) ∙ sym (append_assoc l (page_of lines) line)
 
 -- after some lines, in at bytes: they stand at the front of the page, and later bytes are as they were
 pub record Printed (lines : List (List ℕ)) (at : ℕ) (page₀ page : List ℕ) : Type 0 where
@@ -81,13 +82,16 @@ printed_none page = record { size = refl; long = refl; bytes = refl }
 
 -- one line more, filled into the 73 bytes from at
 pub printed_next : (lines : List (List ℕ)) (line : List ℕ) (at : ℕ) (page₀ page : List ℕ) → at + 73 ≤ length page₀
-    → Printed lines at page₀ page → length line ≡ 73 → Printed (lines ++ (line ∷ [])) (at + 73) page₀ (put_mid at (at + 73 - at) page line)
+    → Printed lines at page₀ page → length line ≡ 73
+    → Printed (lines ++ (line ∷ [])) (at + 73) page₀ (put_mid at (at + 73 - at) page line)
 printed_next lines line at page₀ page h b e =
     let done = page_of lines in
-    let size : length (page_of (lines ++ (line ∷ []))) ≡ at + 73 = ap length (page_snoc lines line) ∙ simp (length-append, b.size, e) in
+    let size : length (page_of (lines ++ (line ∷ []))) ≡ at + 73 =
+    ap length (page_snoc lines line) ∙ simp (length-append, b.size, e) in
     let front : take at page ≡ done = ap (take at) b.bytes ∙ take_at done (drop at page₀) at b.size in
     let rest : drop at page ≡ drop at page₀ = ap (drop at) b.bytes ∙ drop_at done (drop at page₀) at b.size in
-    let behind : drop (at + 73) page ≡ drop (at + 73) page₀ = sym (drop-drop 73 at page) ∙ ap (drop 73) rest ∙ drop-drop 73 at page₀ in
+    let behind : drop (at + 73) page ≡ drop (at + 73) page₀ =
+    sym (drop-drop 73 at page) ∙ ap (drop 73) rest ∙ drop-drop 73 at page₀ in
     let bytes : put_mid at (at + 73 - at) page line ≡ page_of (lines ++ (line ∷ [])) ++ drop (at + 73) page₀ =
     ap₂ (λ (x y : List ℕ). x ++ (line ++ y)) front (Post-is at (at + 73) page (omega arith) ∙ behind)
     ∙ rw (page_snoc lines line) (sym (append_assoc done line (drop (at + 73) page₀))) in

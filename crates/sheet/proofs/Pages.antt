@@ -45,7 +45,8 @@ module _ (xs : List Authority) (now i : ℕ) (page₀ page : List ℕ) (b : List
   listed_room h few room = omega (arith, b.long)
 
   -- and it is written
-  pub listed_next : i < length xs → length xs ≤ 32 → 2409 ≤ length page₀ → (d : Authority) (cells : List Cell) (line : List ℕ)
+  pub listed_next : i < length xs → length xs ≤ 32 → 2409 ≤ length page₀
+      → (d : Authority) (cells : List Cell) (line : List ℕ)
       → (cells ≡ authority_cells now (get_or xs i d)) × (cells_fit authority_widths cells ≡ true)
       → line ≡ cell_line authority_widths cells
       → Listed xs now (i + 1) page₀ (put_mid (73 * i) (73 * i + 73 - 73 * i) page line)
@@ -63,10 +64,11 @@ module _ (xs : List Authority) (now i : ℕ) (page₀ page : List ℕ) (b : List
 
 -- a buffer that is too short
 pub sheet_short : (r : Register) (buffer : List ℕ) → length buffer < 2409 → SheetPost r buffer 23 0 buffer
-sheet_short r buffer h = let e = lt-ltb (length buffer) 2409 h in record { answered = rw e; counted = rw e; bytes = rw e }
+sheet_short r buffer h =
+    let e = lt-ltb (length buffer) 2409 h in record { answered = rw e; counted = rw e; bytes = rw e }
 
-module _ (r : Register) (buffer page : List ℕ) (k : Kept r) (h : 2409 ≤ length buffer) (long : length page ≡ length buffer)
-    (live : ℕ) (n : live ≡ length r.authorities.items) where
+module _ (r : Register) (buffer page : List ℕ) (k : Kept r) (h : 2409 ≤ length buffer)
+    (long : length page ≡ length buffer) (live : ℕ) (n : live ≡ length r.authorities.items) where
   abbrev lines : List (List ℕ)
   lines = map (authority_line (minute_of r.day r.time)) r.authorities.items
 
@@ -81,7 +83,8 @@ module _ (r : Register) (buffer page : List ℕ) (k : Kept r) (h : 2409 ≤ leng
   unfolding board_of total_line sheet_lines sheet
   sheet_long e cells last c q =
       let short = le-ltb (length buffer) 2409 h in
-      let count : length lines ≡ live = length-map r.authorities.items (authority_line (minute_of r.day r.time)) ∙ sym n in
+      let count : length lines ≡ live =
+      length-map r.authorities.items (authority_line (minute_of r.day r.time)) ∙ sym n in
       let bytes : page ≡ page_of lines ++ drop (73 * live) buffer = e ∙ rw count in
       let whole : length (page_of lines) + (length buffer - 73 * live) ≡ length buffer =
       sym (simp (length-append, length-drop) at (ap length bytes)) ∙ long in
@@ -104,7 +107,8 @@ module _ (r : Register) (buffer page : List ℕ) (k : Kept r) (h : 2409 ≤ leng
 -- ---- what callers cite
 
 -- a page has 33 lines at most
-pub lines_few : {r : Register} {buffer buffer' : List ℕ} {given lines : ℕ} → Kept r → SheetPost r buffer given lines buffer' → lines ≤ 33
+pub lines_few : {r : Register} {buffer buffer' : List ℕ} {given lines : ℕ} → Kept r
+    → SheetPost r buffer given lines buffer' → lines ≤ 33
 lines_few {r} {buffer} k p = subst (λ (n : ℕ). n ≤ 33) (sym p.counted) (few (is_short (length buffer)))
   where
     most : length (sheet_lines (board_of r)) ≤ 33

@@ -27,7 +27,8 @@ use Rattle.sheet.proofs.page.write_sheet.Kinds as kinds
 use Rattle.sheet.proofs.page.write_sheet.Reads as reads
 
 -- THEOREM: after any run the `requires` of `write_sheet` holds
-pub sheet_asked : {text : List ℕ} {ms : List Made} {cs : List Answered} (κs : Lfts 2) (a : Dens κs kinds.ps) → Ran text ms cs a.0.now → reads.Pre κs a
+pub sheet_asked : {text : List ℕ} {ms : List Made} {cs : List Answered} (κs : Lfts 2) (a : Dens κs kinds.ps)
+    → Ran text ms cs a.0.now → reads.Pre κs a
 sheet_asked κs a h = ran_kept h
 
 -- THEOREM: first and last, and the kind, of each live authority are those of its REQUEST, read off the calls of the run
@@ -51,13 +52,15 @@ ran_lines_ascend {r = r} h = lines_ascend (board_of r) (ran_ascending h).0
 -- for none, read off the calls of the run and their answers
 pub ran_agreement_shown : {text : List ℕ} {ms : List Made} {cs : List Answered} {r : Register} → Ran text ms cs r
     → (o : Authority) → Member o (board_of r).authorities
-    → get_or (authority_cells (now_of (board_of r)) o) 8 Empty ≡ Number (agreement ((reckoned (open_board text).gates start cs).authority (authority_no o)))
+    → get_or (authority_cells (now_of (board_of r)) o) 8 Empty
+    ≡ Number (agreement ((reckoned (open_board text).gates start cs).authority (authority_no o)))
 unfolding authority_cells
 ran_agreement_shown h o m = ap Number (ran_agreements h o m).number
 
 -- ---- what `write_sheet` leaves, of any register and buffer
 
-module _ (κs : Lfts 2) (a : Dens κs kinds.ps) (out : Result ℕ Refusal) (x : AtExit (ended_of 2 kinds.ps kinds.r) κs) (p : reads.Post κs a out x) where
+module _ (κs : Lfts 2) (a : Dens κs kinds.ps) (out : Result ℕ Refusal) (x : AtExit (ended_of 2 kinds.ps kinds.r) κs)
+    (p : reads.Post κs a out x) where
   abbrev buffer : List ℕ
   buffer = a.1.0.now
 
@@ -74,7 +77,8 @@ module _ (κs : Lfts 2) (a : Dens κs kinds.ps) (out : Result ℕ Refusal) (x : 
   -- and later bytes stay
   pub ran_sheet : {text : List ℕ} {ms : List Made} {cs : List Answered} → Ran text ms cs a.0.now → 2409 ≤ length buffer
       → let b = final (open_board text) ms in
-      (answer_no out ≡ 0) × (lines_no out ≡ length (sheet_lines b)) × (buffer' ≡ sheet b ++ drop (length (sheet b)) buffer)
+      (answer_no out ≡ 0) × (lines_no out ≡ length (sheet_lines b))
+      × (buffer' ≡ sheet b ++ drop (length (sheet b)) buffer)
   ran_sheet h l =
       let e = le-ltb (length buffer) 2409 l in
       let b = ran_board h in

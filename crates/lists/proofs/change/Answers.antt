@@ -9,10 +9,12 @@ loop-x-preserved g c =
     elim c.if-test.branch [
       | then-test w ↦
           rw (add-one, w.x-items-is)
-          (each_turn _ _ _ _ c.x-item.result _ (omega arith) (inl (rw w.if-test.true at c.test.ensures, w.f.ensures)) c.loop-x.invariant.0
+          (each_turn _ _ _ _ c.x-item.result _ (omega arith)
+          (inl (rw w.if-test.true at c.test.ensures, w.f.ensures)) c.loop-x.invariant.0
           c.loop-x.invariant.1)
       | else-test w ↦
           rw (add-one, w.x-items-is)
-          (each_turn _ _ _ _ c.x-item.result _ (omega arith) (inr (rw w.if-test.false at c.test.ensures, refl)) c.loop-x.invariant.0
+          (each_turn _ _ _ _ c.x-item.result _ (omega arith)
+          (inr (rw w.if-test.false at c.test.ensures, refl)) c.loop-x.invariant.0
           c.loop-x.invariant.1)
     ]

@@ -14,7 +14,8 @@ returns-then-p-lt64 c =
     let set = c.args.set in
     let one : ℕ = 1 * 2 ^ p % 2 ^ 64 in
     is_set_of 64 _ (is_not_and_in p set) (lt_of_le_of_lt (and_le_l set _) c.ranges.set.fits)
-    (λ q l. has_and q set ((2 ^ 64 - 1) - one) ∙ rw (has-not 64 q one (mod-lt _ (pow_pos 64)) l, has_single, and_comm (has q set)))
+    (λ q l. has_and q set ((2 ^ 64 - 1) - one)
+    ∙ rw (has-not 64 q one (mod-lt _ (pow_pos 64)) l, has_single, and_comm (has q set)))
 
 pub returns-else-p-lt64 : goal.returns-else-p-lt64
 unfolding remove

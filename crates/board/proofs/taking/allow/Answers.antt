@@ -12,12 +12,14 @@ known c = is_decoded c.args.register.now c.args.s c.decode.ensures c.len.ensures
 
 pub returns-in_err-call : goal.returns-in_err-call
 returns-in_err-call c =
-    allowed_none _ _ (fault_answer (known (goal.at.returns-in_err-call c).After-decode) c.in_err-call.was) c.from_residual.ensures.1
+    allowed_none _ _
+    (fault_answer (known (goal.at.returns-in_err-call c).After-decode) c.in_err-call.was) c.from_residual.ensures.1
 
 pub returns-then-is_early : goal.returns-then-is_early
 returns-then-is_early c = record {
   answered =
-      early_answer (known (goal.at.returns-then-is_early c).After-decode) c.in_ok-call.was (sym c.is_early.ensures ∙ c.if-is_early.true);
+      early_answer (known (goal.at.returns-then-is_early c).After-decode) c.in_ok-call.was
+      (sym c.is_early.ensures ∙ c.if-is_early.true);
   named = tt;
   free = tt;
 }
@@ -26,10 +28,12 @@ pub returns-in_err-answer_of : goal.returns-in_err-answer_of
 returns-in_err-answer_of c =
     let k = known (goal.at.returns-in_err-answer_of c).After-decode in
     allowed_none _ _
-    (rw c.in_err-answer_of.was at c.answer_of.ensures ∙ own_answer k c.in_ok-call.was (sym c.is_early.ensures ∙ c.if-is_early.false))
+    (rw c.in_err-answer_of.was at c.answer_of.ensures
+    ∙ own_answer k c.in_ok-call.was (sym c.is_early.ensures ∙ c.if-is_early.false))
     c.from_residual-in_err-answer_of.ensures.1
 
 pub returns : goal.returns
 returns c =
     let k = known (goal.at.returns c).After-decode in
-    allowed_one k c.in_ok-call.was (sym c.is_early.ensures ∙ c.if-is_early.false) (rw c.in_ok-answer_of.was at c.answer_of.ensures)
+    allowed_one k c.in_ok-call.was (sym c.is_early.ensures ∙ c.if-is_early.false)
+    (rw c.in_ok-answer_of.was at c.answer_of.ensures)

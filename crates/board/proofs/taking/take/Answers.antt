@@ -6,7 +6,8 @@ use Rattle.board.proofs.Deciding.{taken_none, taken_request, taken_other}
 use Rattle.board.proofs.taking.take.Goals as goal
 
 pub returns-in_err-call : goal.returns-in_err-call
-returns-in_err-call c = taken_none _ _ _ c.requires (rw c.in_err-call.was at c.allow.ensures).answered c.from_residual.ensures.1
+returns-in_err-call c =
+    taken_none _ _ _ c.requires (rw c.in_err-call.was at c.allow.ensures).answered c.from_residual.ensures.1
 
 pub effect_of-requires : goal.effect_of-requires
 effect_of-requires c = room_for _ _ _ (rw c.in_ok-call.was at c.allow.ensures).free
@@ -14,7 +15,8 @@ effect_of-requires c = room_for _ _ _ (rw c.in_ok-call.was at c.allow.ensures).f
 pub returns-in-Request : goal.returns-in-Request
 returns-in-Request c =
     let a = rw c.in_ok-call.was at c.allow.ensures in
-    taken_request _ _ _ _ _ _ _ c.requires (rw c.in-Request.is at a.named) (sym a.answered) (rw c.in-Request.is at c.effect_of.ensures)
+    taken_request _ _ _ _ _ _ _ c.requires (rw c.in-Request.is at a.named) (sym a.answered)
+    (rw c.in-Request.is at c.effect_of.ensures)
 
 pub returns-in_default : goal.returns-in_default
 returns-in_default c =

@@ -35,4 +35,11 @@ pub returns : goal.returns
 returns c =
     let i = c.loop-line.invariant in
     let room = i.4 in
-    done_over _ _ _ _ _ _ i.1 i.0 (λ h. omega (arith, (c.in-None.ensures.steps (omega arith)).1.0, i.3, ap length i.2, length-drop (43 * c.loop-line.lines) c.args.text.now))
+    done_over _ _ _ _ _ _ i.1 i.0
+    (λ h. omega (
+      arith,
+      (c.in-None.ensures.steps (omega arith)).1.0,
+      i.3,
+      ap length i.2,
+      length-drop (43 * c.loop-line.lines) c.args.text.now,
+    ))

@@ -11,6 +11,7 @@ use Rattle.columns.proofs.reading.blanks_of.Goals as goal
 pub returns : goal.returns
 returns c =
     count_from_yields_List c.take_while.result _ c.count.ensures.ran
-    (YieldsList-from_take_while _ (λ b. b == 32) (YieldsList-from_slice c.args.text.now (cc)) c.take_while.ensures.closure
+    (YieldsList-from_take_while _ (λ b. b == 32)
+    (YieldsList-from_slice c.args.text.now (cc)) c.take_while.ensures.closure
     c.take_while.ensures.done (λ x b q k. search (rules, tests)))
     ∙ length-prefix_len (λ b. b == 32) c.args.text.now ∙ sym (blanks_taken c.args.text.now)

@@ -19,11 +19,13 @@ returns-in_err-column g c =
 pub returns-in_err-numbers : goal.returns-in_err-numbers
 returns-in_err-numbers g c =
     c.from_residual-in_err-numbers.ensures
-    ∙ row_bad _ _ _ _ _ _ _ c.loop-place.invariant _ c.from.ensures (omega arith) _ _ c.in_ok-column.ensures.cases c.in_err-numbers.ensures
+    ∙ row_bad _ _ _ _ _ _ _ c.loop-place.invariant _ c.from.ensures
+    (omega arith) _ _ c.in_ok-column.ensures.cases c.in_err-numbers.ensures
 
 pub loop-place-preserved : goal.loop-place-preserved
 loop-place-preserved g c =
-    row_next _ _ _ _ _ _ _ c.loop-place.invariant _ c.from.ensures (omega arith) _ _ c.in_ok-column.ensures.cases _ c.in_ok-numbers.ensures
+    row_next _ _ _ _ _ _ _ c.loop-place.invariant _ c.from.ensures
+    (omega arith) _ _ c.in_ok-column.ensures.cases _ c.in_ok-numbers.ensures
 
 pub returns-then-is_line_feed : goal.returns-then-is_line_feed
 returns-then-is_line_feed g c =

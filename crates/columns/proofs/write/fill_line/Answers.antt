@@ -15,7 +15,8 @@ loop-width-init c =
     let z = c.zip-width-items.ensures in
     let f = c.requires.0 in
     let l = line-length c.args.widths.now c.args.numbers.now f in
-    rw (c.into_iter-width-iterator.ensures.into_iter_gives, z.first, c.iter.ensures.rest, z.second.0) (omega arith, f, refl)
+    rw (c.into_iter-width-iterator.ensures.into_iter_gives, z.first, c.iter.ensures.rest, z.second.0)
+    (omega arith, f, refl)
 
 -- the number of this turn, and those after it
 turn : (c : In-Some) → let s = c.loop-width.width-iterator in
@@ -53,7 +54,8 @@ loop-width-preserved c =
     let p = c.put in (
       p.auto.t ∙ omega arith,
       n.rest,
-      h.invariant.2 ∙ rw (z.0, z.1, c.from-width.ensures) (line_step h.at _ _ _ _ h.t _ (omega arith) n.fit (rw c.from-width.ensures at p.ensures)),
+      h.invariant.2 ∙ rw (z.0, z.1, c.from-width.ensures)
+          (line_step h.at _ _ _ _ h.t _ (omega arith) n.fit (rw c.from-width.ensures at p.ensures)),
     )
 
 pub returns : goal.returns

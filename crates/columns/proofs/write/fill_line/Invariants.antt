@@ -9,4 +9,5 @@ abbrev pub invariant-loop-width : goal.invariant-loop-width
 invariant-loop-width l =
     let ws = iter_rest (zip_first l.width-iterator) in
     let ns = iter_rest (zip_second l.width-iterator) in
-    (length l.t ≡ l.at + (total ws + 1)) × (all_fit ws ns ≡ true) × (line l.widths l.numbers ≡ take l.at l.t ++ line ws ns)
+    (length l.t ≡ l.at + (total ws + 1)) × (all_fit ws ns ≡ true)
+    × (line l.widths l.numbers ≡ take l.at l.t ++ line ws ns)

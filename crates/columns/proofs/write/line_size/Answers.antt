@@ -41,7 +41,8 @@ pub returns-then-not-is_fitting : goal.returns-then-not-is_fitting
 returns-then-not-is_fitting c =
     let z = turn (goal.at.returns-then-not-is_fitting c).In-Some in
     sym (c.loop-width.invariant.2
-    ∙ rw (z.0, z.1, ← c.from-width.ensures) (size_unfit _ _ _ _ _ _ (sym c.is_fitting.ensures ∙ c.if-not-is_fitting.true)))
+    ∙ rw (z.0, z.1, ← c.from-width.ensures)
+    (size_unfit _ _ _ _ _ _ (sym c.is_fitting.ensures ∙ c.if-not-is_fitting.true)))
 
 pub returns-then-room-size : goal.returns-then-room-size
 returns-then-room-size c =
@@ -55,7 +56,8 @@ loop-width-preserved c =
     let l = rw (z.0, z.1) at v.1 in (
       omega arith,
       omega arith,
-      v.2 ∙ rw (z.0, z.1, ← c.from-width.ensures) (size_step _ _ _ _ _ _ (sym c.is_fitting.ensures ∙ c.if-not-is_fitting.false)),
+      v.2 ∙ rw (z.0, z.1, ← c.from-width.ensures)
+          (size_step _ _ _ _ _ _ (sym c.is_fitting.ensures ∙ c.if-not-is_fitting.false)),
     )
 
 pub returns : goal.returns

@@ -18,4 +18,5 @@ pub returns : goal.returns
 unfolding up_to run set_of
 returns c =
     let below : c.min.result < 64 = let l = min-le_right c.from.result 63 in omega arith in
-    entry up_to 64 c.min.result below ∙ ap up_to (c.min.ensures ∙ ap (λ n. min n 63) c.from.ensures) ∙ up_to_min c.args.n
+    entry up_to 64 c.min.result below ∙ ap up_to (c.min.ensures ∙ ap (λ n. min n 63) c.from.ensures)
+    ∙ up_to_min c.args.n

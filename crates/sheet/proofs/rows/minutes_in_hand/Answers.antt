@@ -8,5 +8,6 @@ returns-then-a-eq0 c = minutes_none _ _ c.if-a-eq0.true
 
 pub returns : goal.returns
 returns c =
-    minutes_some c.args.now c.args.a _ _ c.if-a-eq0.false c.from.ensures c.difference.ensures c.requires.0 (search rules)
+    minutes_some c.args.now c.args.a _ _ c.if-a-eq0.false c.from.ensures c.difference.ensures c.requires.0
+    (search rules)
     c.requires.1
