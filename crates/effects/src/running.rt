@@ -99,14 +99,20 @@ pub fn go_through(trains: &mut Trains, gate: Gate, t: TrainNo, n: AuthorityNo)
     }
 }
 
+// The head of the train with that number.
+fn head_of(trains: &[Train], t: TrainNo) -> u16
+    ensures { result ≡ (first (is_train t.0) no_train trains.now).head }
+{
+    trains::find_train(trains, t).unwrap_or_default().head
+}
+
 // PASSED: rear becomes head; a head outside takes the train off.
 pub fn draw_in(trains: &mut Trains, t: TrainNo)
     ensures { let ts = trains.old.items in
         trains.new.items
         ≡ cond (is_outside (first (is_train t.0) no_train ts).head) (gone t.0 ts) (moved t.0 with_rear_in ts) }
 {
-    let train = trains::find_train(trains, t).unwrap_or_default();
-    if train.head == 99 {
+    if head_of(trains, t) == 99 {
         trains.retain(|x| x.number != t);
     } else {
         change(trains, |x| x.number == t, |x| Train { rear: x.head, ..x });
