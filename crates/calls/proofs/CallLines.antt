@@ -6,7 +6,7 @@ use mathlib.Core.Bool.{true}
 use mathlib.Core.List.{List, [], ◌∷◌}
 use lib.ListN.{length, drop, get_or, replicate, drop_of_length-le}
 use lib.Seq.{drop-cons}
-use Rattle.columns.specs.Line.{all_fit}
+use Rattle.columns.specs.Line.{all_fit, fit_of}
 use Rattle.columns.specs.Reading.{row_of}
 use Rattle.columns.proofs.Writing.{fits_below, total, line-length}
 use Rattle.columns.proofs.Rows.{at_most, IsLine, line_read}
@@ -47,7 +47,7 @@ call_line s c e =
 
 -- numbers of 16 bits fit columns of six
 pub six_fit : (ns : List ℕ) → at_most 65535 ns ≡ true → all_fit (replicate (length ns) 6) ns ≡ true
-unfolding at_most all_fit
+unfolding at_most fit_of
 six_fit [] h = refl
 six_fit (n ∷ ns) h = grind (arith, fits_below 6 n, six_fit ns)
 

@@ -9,7 +9,7 @@ use lib.Seq.{take-append-add}
 use borrow.Author.Tests.{le-leb}
 use Rattle.lists.proofs.Tests.{and_l, and_r}
 use Rattle.columns.specs.Column.{column, fits}
-use Rattle.columns.specs.Line.{line, all_fit, Written, with_line}
+use Rattle.columns.specs.Line.{line, all_fit, Written, with_line, fit_of, line_of}
 use Rattle.columns.proofs.Writing.{column-length, total, writable-room, line-length}
 use Rattle.columns.proofs.Rows.{at_most}
 use Rattle.rules.specs.declared.Seven.{Seven}
@@ -21,7 +21,7 @@ use Rattle.calls.proofs.CallLines.{numbers_of, call_line, six_fit}
 -- a line without its line feed, with another line behind it, is one line
 line_append : (ws vs ns ms : List ℕ) → all_fit ws ns ≡ true
     → take (total ws) (line ws ns) ++ line vs ms ≡ line (ws ++ vs) (ns ++ ms)
-unfolding line all_fit total
+unfolding line_of fit_of total
 line_append [] vs [] ms e = refl
 line_append [] vs (n ∷ ns) ms e = absurd (false≢true e)
 line_append (w ∷ ws) vs [] ms e = absurd (false≢true e)

@@ -14,10 +14,10 @@ use Rattle.lists.specs.Search.{any}
 use Rattle.lists.proofs.Search.{any_append}
 use Rattle.lists.proofs.Tests.{and_l, and_r}
 use Rattle.columns.specs.Column.{digits, column, fits}
-use Rattle.columns.specs.Line.{line}
+use Rattle.columns.specs.Line.{line, fit_of, line_of}
 use Rattle.columns.specs.Reading.{blanks, value_from}
 use Rattle.columns.proofs.Digits.{digits_one, digits_more}
-use Rattle.columns.proofs.Writing.{filled_column, part_done, total}
+use Rattle.columns.proofs.Writing.{filled_column, part_done, total, line_of-length, fit_of-lengths}
 use Rattle.columns.proofs.Scan.{by_tenths, starts, value_digits, blanks_front, blanks_le}
 use Rattle.columns.proofs.SameText.{value_blanks}
 use Rattle.columns.specs.declared.cells.Cell.{Cell}
@@ -68,18 +68,11 @@ cell-length w c e = simp (length-append, length-replicate) (omega (arith, leb-tr
 
 -- cells that fit take their columns, and the line feed one byte
 pub cell_line-length : (ws : List ℕ) (cs : List Cell) → cells_fit ws cs ≡ true → length (cell_line ws cs) ≡ total ws + 1
-unfolding cell_line cells_fit total
-cell_line-length [] [] e = refl
-cell_line-length [] (c ∷ cs) e = absurd (false≢true e)
-cell_line-length (w ∷ ws) [] e = absurd (false≢true e)
-cell_line-length (w ∷ ws) (c ∷ cs) e =
-    let a : cell_fits w c ≡ true = and_l (cell_fits w c) (cells_fit ws cs) e in
-    let b : cells_fit ws cs ≡ true = and_r (cell_fits w c) (cells_fit ws cs) e in
-    rw (length-append (cell w c) (cell_line ws cs), cell-length w c a, cell_line-length ws cs b) (omega arith)
+cell_line-length ws cs e = line_of-length cell_fits cell cell-length ws cs e
 
 -- a line of numbers is the line of their cells
 pub line_cells : (ws ns : List ℕ) → line ws ns ≡ cell_line ws (map Number ns)
-unfolding line cell_line
+unfolding line_of
 line_cells [] ns = refl
 line_cells (w ∷ ws) [] = refl
 line_cells (w ∷ ws) (n ∷ ns) = ap₂ (λ (x y : List ℕ). x ++ y) (sym (number_cell w n)) (line_cells ws ns)
@@ -190,21 +183,17 @@ pub ruleset minus_steps = (filled_column, minus_number, minus_blank, minus_withi
 
 -- cells that fit are as many as the widths
 pub cells_lengths : (ws : List ℕ) (cs : List Cell) → cells_fit ws cs ≡ true → length ws ≡ length cs
-unfolding cells_fit
-cells_lengths [] [] e = refl
-cells_lengths [] (c ∷ cs) e = absurd (false≢true e)
-cells_lengths (w ∷ ws) [] e = absurd (false≢true e)
-cells_lengths (w ∷ ws) (c ∷ cs) e = ap suc (cells_lengths ws cs (and_r (cell_fits w c) (cells_fit ws cs) e))
+cells_lengths ws cs e = fit_of-lengths cell_fits ws cs e
 
 module _ (w : ℕ) (c : Cell) (ws : List ℕ) (cs : List Cell) where
   -- the first cell fits, and so do those after it
   pub cells_next : cells_fit (w ∷ ws) (c ∷ cs) ≡ true → (cell_fits w c ≡ true) × (cells_fit ws cs ≡ true)
-  unfolding cells_fit
+  unfolding fit_of
   cells_next e = (and_l (cell_fits w c) (cells_fit ws cs) e, and_r (cell_fits w c) (cells_fit ws cs) e)
 
   -- the first cell put into t
   pub cell_line_step : (at : ℕ) (t t' : List ℕ) → at + w ≤ length t → cell_fits w c ≡ true
       → t' ≡ take at t ++ (cell w c ++ drop (at + w) t)
       → take at t ++ cell_line (w ∷ ws) (c ∷ cs) ≡ take (at + w) t' ++ cell_line ws cs
-  unfolding cell_line
+  unfolding line_of
   cell_line_step at t t' r f p = part_done at w (cell w c) (cell_line ws cs) t t' r (cell-length w c f) p

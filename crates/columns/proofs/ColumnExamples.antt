@@ -8,7 +8,7 @@ use lib.ListN.{replicate}
 use Rattle.std.specs.Prelude.{Some, None}
 use Rattle.columns.specs.Text.{bytes}
 use Rattle.columns.specs.Column.{digits_in, digits, column, fits}
-use Rattle.columns.specs.Line.{line, all_fit, writable, with_line}
+use Rattle.columns.specs.Line.{line, all_fit, writable, with_line, fit_of, line_of}
 use Rattle.columns.specs.Reading.{same_text, value_from, is_column, read_column, first_column, row_of}
 use Rattle.columns.specs.declared.cells.Cell.TheVariants.{Empty, Minus}
 use Rattle.columns.specs.Cells.{difference, marks, cell, cell_fits, cell_in}
@@ -23,21 +23,21 @@ unfoldable pub e1_bytes : List ℕ
 e1_bytes = bytes "     0  2200     1     2     1     1     7     0     1\n"
 
 pub e1-line : line (replicate 9 6) e1 ≡ e1_bytes
-unfolding digits_in digits column line e1_bytes bytes
+unfolding digits_in digits column line_of e1_bytes bytes
 e1-line = refl
 
 -- a buffer of 55 bytes takes the line, one of 54 does not
 pub e1_room : writable 55 (replicate 9 6) e1 ≡ true
-unfolding digits_in digits column fits line all_fit writable
+unfolding digits_in digits column fits line_of fit_of writable
 e1_room = refl
 
 pub e1_short : writable 54 (replicate 9 6) e1 ≡ false
-unfolding digits_in digits column fits line all_fit writable
+unfolding digits_in digits column fits line_of fit_of writable
 e1_short = refl
 
 -- later bytes stay
 pub stays : with_line (3 ∷ []) (7 ∷ []) (1 ∷ 2 ∷ 3 ∷ 4 ∷ 5 ∷ 6 ∷ []) ≡ 32 ∷ 32 ∷ 55 ∷ 10 ∷ 5 ∷ 6 ∷ []
-unfolding digits_in digits column line with_line
+unfolding digits_in digits column line_of with_line
 stays = refl
 
 -- ---- columns read

@@ -14,7 +14,7 @@ use lib.ListN.{length, take, drop, set, get_or, drop_of_length-le}
 use lib.Seq.{drop_at, length-take-le, set_split}
 use Rattle.lists.proofs.Tests.{truth, same_test, and_l, and_r}
 use Rattle.columns.specs.Column.{digits, column, fits}
-use Rattle.columns.specs.Line.{line, all_fit, writable, with_line, Written}
+use Rattle.columns.specs.Line.{line, all_fit, writable, with_line, Written, fit_of, line_of}
 use Rattle.columns.specs.Steps.{mark}
 use Rattle.columns.proofs.Writing.{count_some, fits_below, below_fits, column-length, part_done, front, column-front}
 use Rattle.columns.proofs.Writing.{total, line-length, writable_known}
@@ -97,11 +97,11 @@ size_none room s ws ns h =
 -- one number more, counted where it fits
 pub size_step : (room s w n : ℕ) (ws ns : List ℕ) → fits w n ≡ true
     → size_from room s (w ∷ ws) (n ∷ ns) ≡ size_from room (s + w) ws ns
-unfolding size_from all_fit total
+unfolding size_from fit_of total
 size_step room s w n ws ns f = let e : w + total ws + s ≡ total ws + (s + w) = omega arith in rw (f, e)
 
 pub size_unfit : (room s w n : ℕ) (ws ns : List ℕ) → fits w n ≡ false → size_from room s (w ∷ ws) (n ∷ ns) ≡ None
-unfolding size_from all_fit
+unfolding size_from fit_of
 size_unfit room s w n ws ns f = rw f
 
 pub size_full : (room s w n : ℕ) (ws ns : List ℕ) → room < s + w → size_from room s (w ∷ ws) (n ∷ ns) ≡ None
@@ -110,7 +110,7 @@ size_full room s w n ws ns h = size_none room s (w ∷ ws) (n ∷ ns) (λ e. ome
 
 -- every number counted
 pub size_end : (room s : ℕ) (ws ns : List ℕ) → ws ≡ [] → ns ≡ [] → s ≤ room → size_from room s ws ns ≡ Some s
-unfolding size_from all_fit total
+unfolding size_from fit_of total
 size_end room s ws ns e f r = rw (e, f, zero-add s, le-leb s room r)
 
 -- a line whose numbers fit: its first column, and the numbers behind it
@@ -120,7 +120,7 @@ pub record Next (w n : ℕ) (ws ns : List ℕ) : Type 0 where
   pub rest : all_fit ws ns ≡ true
 
 pub next_of : (w n : ℕ) (ws ns : List ℕ) → all_fit (w ∷ ws) (n ∷ ns) ≡ true → Next w n ws ns
-unfolding all_fit total
+unfolding fit_of total
 next_of w n ws ns e =
     record { columns = refl; fit = and_l (fits w n) (all_fit ws ns) e; rest = and_r (fits w n) (all_fit ws ns) e }
 
@@ -128,13 +128,13 @@ next_of w n ws ns e =
 pub line_step : (at w n : ℕ) (ws ns t t' : List ℕ) → at + w ≤ length t → fits w n ≡ true
     → t' ≡ take at t ++ (column w n ++ drop (at + w) t)
     → take at t ++ line (w ∷ ws) (n ∷ ns) ≡ take (at + w) t' ++ line ws ns
-unfolding line
+unfolding line_of
 line_step at w n ws ns t t' r f p = part_done at w (column w n) (line ws ns) t t' r (column-length w n f) p
 
 -- every number put into t: the line feed
 pub line_end : (at : ℕ) (t ws ns : List ℕ) → ws ≡ [] → length t ≡ at + (total ws + 1)
     → set t at 10 ≡ take at t ++ line ws ns
-unfolding line total
+unfolding line_of total
 line_end at t ws ns w e =
     let n : length t ≡ at + 1 = rw w at e in
     let l : length t ≤ suc at = omega arith in

@@ -16,7 +16,7 @@ use Rattle.std.specs.Prelude.{Option, Some, None}
 use Rattle.std.specs.List.{IsSplitAt}
 use Rattle.std.proofs.lemmas.List.{take_all}
 use Rattle.columns.specs.Column.{column, fits}
-use Rattle.columns.specs.Line.{line, all_fit}
+use Rattle.columns.specs.Line.{line, all_fit, fit_of, line_of}
 use Rattle.columns.specs.Reading.{same_text, read_column, first_column, Row, with_column, row_of, row_in, numbers_in}
 use Rattle.columns.proofs.Scan.{unread}
 use Rattle.columns.proofs.SameText.{same_eq}
@@ -52,7 +52,7 @@ module _ (most w n : ℕ) where
 -- numbers that fit their columns are read back from their line
 pub read_line : (most : ℕ) (ws ns : List ℕ) → all_fit ws ns ≡ true → at_most most ns ≡ true
     → row_of most ws (line ws ns) ≡ record { numbers = ns; whole = true }
-unfolding at_most all_fit line row_of same_text
+unfolding at_most fit_of line_of row_of same_text
 read_line most [] [] f h = refl
 read_line most [] (n ∷ ns) f h = absurd (false≢true f)
 read_line most (w ∷ ws) [] f h = absurd (false≢true f)
@@ -70,7 +70,7 @@ pub record IsLine (most : ℕ) (ws s ns : List ℕ) : Type 0 where
 
 pub line_read : (most : ℕ) (ws s : List ℕ) → (row_of most ws s).whole ≡ true
     → IsLine most ws s (row_of most ws s).numbers
-unfolding at_most line row_of
+unfolding at_most line_of row_of
 line_read most [] s e = record { text = same_eq s (10 ∷ []) e; count = refl; small = refl }
 line_read most (w ∷ ws) s e = go (first_column most w s) refl e (line_read most ws (drop w s))
   where

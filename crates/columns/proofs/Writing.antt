@@ -15,7 +15,7 @@ use lib.Seq.{length-take-le, take_at}
 use borrow.Rule.Slice.PartMut.{mid_of, put_mid, mid_len, Post-is}
 use Rattle.lists.proofs.Tests.{lt_or_le, and_l, and_r}
 use Rattle.columns.specs.Column.{digits, column, fits, ColumnFilled}
-use Rattle.columns.specs.Line.{line, all_fit, writable, with_line}
+use Rattle.columns.specs.Line.{line, all_fit, writable, with_line, fit_of, line_of}
 use Rattle.columns.specs.Steps.{mark}
 use Rattle.columns.proofs.Digits.{digits_one, digits_more, count_one, count_more}
 
@@ -131,24 +131,32 @@ unfoldable pub total : List ℕ → ℕ
 total [] = 0
 total (w ∷ ws) = w + total ws
 
--- numbers that fit take their columns, and the line feed one byte
-pub line-length : (ws ns : List ℕ) → all_fit ws ns ≡ true → length (line ws ns) ≡ total ws + 1
-unfolding line all_fit total
-line-length [] [] e = refl
-line-length [] (n ∷ ns) e = absurd (false≢true e)
-line-length (w ∷ ws) [] e = absurd (false≢true e)
-line-length (w ∷ ws) (n ∷ ns) e =
-    let a : fits w n ≡ true = and_l (fits w n) (all_fit ws ns) e in
-    let b : all_fit ws ns ≡ true = and_r (fits w n) (all_fit ws ns) e in
-    rw (length-append (column w n) (line ws ns), column-length w n a, line-length ws ns b) (omega arith)
+-- things that fit take their columns, and the line feed one byte; and they are as many as the widths
+module _ {A : Type 0} (test : ℕ → A → Bool) where
+  pub fit_of-lengths : (ws : List ℕ) (xs : List A) → fit_of test ws xs ≡ true → length ws ≡ length xs
+  unfolding fit_of
+  fit_of-lengths [] [] e = refl
+  fit_of-lengths [] (x ∷ xs) e = absurd (false≢true e)
+  fit_of-lengths (w ∷ ws) [] e = absurd (false≢true e)
+  fit_of-lengths (w ∷ ws) (x ∷ xs) e = ap suc (fit_of-lengths ws xs (and_r (test w x) (fit_of test ws xs) e))
 
--- numbers that fit are as many as the widths
+  module _ (written : ℕ → A → List ℕ) (wide : (w : ℕ) (x : A) → test w x ≡ true → length (written w x) ≡ w) where
+    pub line_of-length : (ws : List ℕ) (xs : List A) → fit_of test ws xs ≡ true
+        → length (line_of written ws xs) ≡ total ws + 1
+    unfolding line_of fit_of total
+    line_of-length [] [] e = refl
+    line_of-length [] (x ∷ xs) e = absurd (false≢true e)
+    line_of-length (w ∷ ws) [] e = absurd (false≢true e)
+    line_of-length (w ∷ ws) (x ∷ xs) e =
+        let a : test w x ≡ true = and_l (test w x) (fit_of test ws xs) e in
+        let b : fit_of test ws xs ≡ true = and_r (test w x) (fit_of test ws xs) e in
+        rw (length-append (written w x) (line_of written ws xs), wide w x a, line_of-length ws xs b) (omega arith)
+
+pub line-length : (ws ns : List ℕ) → all_fit ws ns ≡ true → length (line ws ns) ≡ total ws + 1
+line-length ws ns e = line_of-length fits column column-length ws ns e
+
 pub fit_lengths : (ws ns : List ℕ) → all_fit ws ns ≡ true → length ws ≡ length ns
-unfolding all_fit
-fit_lengths [] [] e = refl
-fit_lengths [] (n ∷ ns) e = absurd (false≢true e)
-fit_lengths (w ∷ ws) [] e = absurd (false≢true e)
-fit_lengths (w ∷ ws) (n ∷ ns) e = ap suc (fit_lengths ws ns (and_r (fits w n) (all_fit ws ns) e))
+fit_lengths ws ns e = fit_of-lengths fits ws ns e
 
 -- a line can be written where its numbers fit and there is room for their columns and the line feed
 pub writable-room : (room : ℕ) (ws ns : List ℕ) → all_fit ws ns ≡ true → total ws + 1 ≤ room

@@ -4,6 +4,7 @@ use Rattle.std.specs.Prelude.{ℕ, ◌-◌, Bool, true, false, cond, not, ◌&&�
 use Rattle.std.specs.Prelude.{length, replicate}
 use Rattle.lists.specs.Search.{any}
 use Rattle.columns.specs.Column.{digits}
+use Rattle.columns.specs.Line.{line_of, fit_of}
 use Rattle.columns.specs.Reading.{value_from}
 use Rattle.columns.specs.declared.cells.Cell.{Cell}
 use Rattle.columns.specs.declared.cells.Cell.TheVariants.{Empty, Number, Minus}
@@ -32,18 +33,12 @@ pub record Filled (before : List ℕ) (c : Cell) (after : List ℕ) (answer : Bo
   pub answered : answer ≡ cell_fits (length before) c
   pub bytes : after ≡ cond (cell_fits (length before) c) (cell (length before) c) before
 
--- each cell in columns of its width, then a line feed (byte 10)
-unfoldable pub cell_line : List ℕ → List Cell → List ℕ
-cell_line [] cells = 10 ∷ []
-cell_line (w ∷ widths) [] = 10 ∷ []
-cell_line (w ∷ widths) (c ∷ cells) = cell w c ++ cell_line widths cells
+-- a line of cells, and that each fits
+abbrev pub cell_line : List ℕ → List Cell → List ℕ
+cell_line widths cells = line_of cell widths cells
 
--- as many cells as widths, and each fits its own
-unfoldable pub cells_fit : List ℕ → List Cell → Bool
-cells_fit [] [] = true
-cells_fit [] (c ∷ cells) = false
-cells_fit (w ∷ widths) [] = false
-cells_fit (w ∷ widths) (c ∷ cells) = cell_fits w c && cells_fit widths cells
+abbrev pub cells_fit : List ℕ → List Cell → Bool
+cells_fit widths cells = fit_of cell_fits widths cells
 
 -- ---- read back
 

@@ -2,18 +2,25 @@
 use Rattle.std.specs.Prelude.{ℕ, Bool, true, false, cond, ◌&&◌, List, [], ◌∷◌, ◌++◌, ◌≡◌, leb, length, drop}
 use Rattle.columns.specs.Column.{column, fits}
 
--- each number in columns of its width, then a line feed (byte 10)
-unfoldable pub line : List ℕ → List ℕ → List ℕ
-line [] numbers = 10 ∷ []
-line (w ∷ widths) [] = 10 ∷ []
-line (w ∷ widths) (n ∷ numbers) = column w n ++ line widths numbers
+-- each of the things in columns of its width, as `written` writes one, then a line feed (byte 10)
+unfoldable pub line_of : {A : Type 0} → (ℕ → A → List ℕ) → List ℕ → List A → List ℕ
+line_of written [] xs = 10 ∷ []
+line_of written (w ∷ widths) [] = 10 ∷ []
+line_of written (w ∷ widths) (x ∷ xs) = written w x ++ line_of written widths xs
 
--- as many numbers as widths, and each fits its own
-unfoldable pub all_fit : List ℕ → List ℕ → Bool
-all_fit [] [] = true
-all_fit [] (n ∷ numbers) = false
-all_fit (w ∷ widths) [] = false
-all_fit (w ∷ widths) (n ∷ numbers) = fits w n && all_fit widths numbers
+-- as many things as widths, and each passes the test of its own width
+unfoldable pub fit_of : {A : Type 0} → (ℕ → A → Bool) → List ℕ → List A → Bool
+fit_of test [] [] = true
+fit_of test [] (x ∷ xs) = false
+fit_of test (w ∷ widths) [] = false
+fit_of test (w ∷ widths) (x ∷ xs) = test w x && fit_of test widths xs
+
+-- a line of numbers, and that each fits
+abbrev pub line : List ℕ → List ℕ → List ℕ
+line widths numbers = line_of column widths numbers
+
+abbrev pub all_fit : List ℕ → List ℕ → Bool
+all_fit widths numbers = fit_of fits widths numbers
 
 -- a line can be written: its numbers fit, and it is at most `room` bytes long
 unfoldable pub writable : ℕ → List ℕ → List ℕ → Bool

@@ -208,7 +208,7 @@ pub record Cases : Type 0 where
 
 pub cases : Cases
 unfolding plan_text plain_text printed answers trains_after papers_after recorded_after bytes Search.first Search.change
-    Search.below Order.insert_by Column.digits_in Column.digits Column.column Line.line Reading.same_text
+    Search.below Order.insert_by Column.digits_in Column.digits Column.column Line.line_of Reading.same_text
     Reading.value_from Reading.is_column Reading.read_column Reading.first_column Reading.row_of Sets.has Sets.set_of
     Sets.run Sets.insert Sets.remove Sets.shares Board.opened Board.closed Board.live Board.authority Board.on_board
     Board.train Board.touches Board.touches_portion Board.needs Board.is_out Board.can_be_blocked Call.is_day

@@ -7,7 +7,7 @@ use mathlib.Core.List.{List, [], ◌∷◌}
 use lib.ListN.{length}
 use Rattle.lists.proofs.Search.{Each}
 use Rattle.columns.specs.Column.{fits}
-use Rattle.columns.specs.Line.{all_fit}
+use Rattle.columns.specs.Line.{all_fit, fit_of}
 use Rattle.columns.proofs.Writing.{fits_below, total, line-length}
 use Rattle.rules.specs.declared.Seven.{Seven}
 use Rattle.rules.specs.Journal.{journal_widths, journal_line}
@@ -25,7 +25,7 @@ small_fits n h = fits_below 6 n (omega arith) (omega arith)
 
 pub nine_fit : (s : Seven) (answer number : ℕ) → Each Small (nine s answer number)
     → all_fit journal_widths (nine s answer number) ≡ true
-unfolding all_fit
+unfolding fit_of
 nine_fit s answer number (a, (b, (c, (d, (e, (f, (g, (h, (i, u))))))))) =
     rw (
       small_fits s.day a,

@@ -16,7 +16,8 @@ use Rattle.lists.proofs.Order.{ascending_at}
 use Rattle.columns.specs.Text.{bytes}
 use Rattle.columns.specs.Column.{digits_in, digits}
 use Rattle.columns.specs.declared.cells.Cell.TheVariants.{Empty, Number}
-use Rattle.columns.specs.Cells.{difference, marks, cell, cell_line}
+use Rattle.columns.specs.Line.{line_of}
+use Rattle.columns.specs.Cells.{difference, marks, cell}
 use Rattle.sets.specs.Sets.{has, set_of, run, size, least, greatest}
 use Rattle.sets.proofs.Ends.{least_is, greatest_is}
 use Rattle.rules.specs.declared.kind.Kind.TheVariants.{Lpa, Toa, Twa}
@@ -166,6 +167,6 @@ last_night_bytes =
 
 pub last_night-sheet : sheet last_night ≡ last_night_bytes
 unfolding sheet page_of sheet_lines authority_line authority_cells minutes_in_hand difference total_line total_cells
-    held_portions cell_line cell marks digits digits_in least greatest size first last below has set_of run minute_of
+    held_portions line_of cell marks digits digits_in least greatest size first last below has set_of run minute_of
     last_night_bytes bytes
 last_night-sheet = refl

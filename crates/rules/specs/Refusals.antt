@@ -280,8 +280,8 @@ fulfil_refusals b n officer assurances =
     ∷ 15 when not (eqb assurances 7)
     ∷ []
 
--- CONTINUE {5; 6 old not in force or new not pending; 7 either; 11, 12, 13 for the new}; 22 for the new, order 1:
--- behind 5, of the two that are live
+-- CONTINUE {.. 6 old not in force or new not pending; 7 either; 11, 12, 13 for the new}; 22 for the new, order 1: what
+-- comes behind 5, of the two that are live
 abbrev pub of_continue : Board → Seven → ℕ → Authority → Authority → ℕ → ℕ → List Refusal
 of_continue b s old x y officer_old officer_new =
     6 when (not (is_in_force x) || is_in_force y)
@@ -292,6 +292,7 @@ of_continue b s old x y officer_old officer_new =
     ∷ 22 when outside_term s y
     ∷ []
 
+-- CONTINUE {5; ..}
 abbrev pub continue_refusals : Board → Seven → ℕ → ℕ → ℕ → ℕ → List Refusal
 continue_refusals b s old new officer_old officer_new =
     5 when (not_live b old || not_live b new)

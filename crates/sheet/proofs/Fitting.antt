@@ -24,6 +24,7 @@ use Rattle.rules.specs.Board.{Board, kind_no, is_in_force, has_workers_on, autho
 use Rattle.rules.specs.Call.{minute_of}
 use Rattle.rules.specs.Sheet.{stage_no, site_no, minutes_in_hand, authority_cells, authority_widths, held_portions}
 use Rattle.rules.specs.Sheet.{total_cells, total_widths}
+use Rattle.columns.specs.Line.{fit_of}
 
 -- a number of no more digits than columns, and one of fewer behind a minus sign
 number_in : (w n : ℕ) → 0 < w → n < 10 ^ w → cell_fits w (Number n) ≡ true
@@ -81,7 +82,7 @@ pub authority_line_lem : (now : ℕ) (a : Authority) (number kind first last off
     Number number ∷ Number kind ∷ Number first ∷ Number last ∷ Number officer ∷ Number stage ∷ Number site ∷ minutes
     ∷ Number agreed ∷ [] in
     (cells ≡ authority_cells now a) × (cells_fit authority_widths cells ≡ true)
-unfolding cells_fit authority_cells
+unfolding fit_of authority_cells
 authority_line_lem now a number kind first last officer stage site minutes agreed n o r b k f l w t s m g = (
   rw (b, k, f, l, w, t, s, m.0, g),
   and_from _ _ (eight_in number (omega arith))
@@ -120,7 +121,7 @@ pub total_line_lem : (b : Board) (held blocked : ℕ) → held ≡ size (held_po
     → blocked ≡ size b.blocks
     → let cells = Number held ∷ Number blocked ∷ Empty ∷ [] in
     (cells ≡ total_cells b) × (cells_fit total_widths cells ≡ true)
-unfolding cells_fit total_cells
+unfolding fit_of total_cells
 total_line_lem b held blocked h g = (
   rw (h, g),
   and_from _ _ (number_in 9 held (omega arith) (omega (arith, size_most (held_portions b.authorities))))

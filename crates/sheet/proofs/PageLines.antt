@@ -12,6 +12,7 @@ use Rattle.columns.specs.declared.cells.Cell.{Cell}
 use Rattle.columns.specs.Cells.{cell, cell_line, cells_fit, Filled}
 use Rattle.columns.proofs.CellsLaws.{cell-length, cell_line-length, cells_next, cell_line_step}
 use Rattle.rules.specs.Sheet.{page_of}
+use Rattle.columns.specs.Line.{line_of}
 
 -- ---- a line, cell by cell
 
@@ -55,7 +56,7 @@ module _ (w at : ℕ) (c : Cell) (ws : List ℕ) (cells : List Cell) (whole line
 -- the line feed, after the last cell
 pub begun_end : (ws : List ℕ) (cells : List Cell) (whole : List ℕ) (at : ℕ) (line : List ℕ) → ws ≡ []
     → Begun ws cells whole at line → set line at 10 ≡ whole
-unfolding cell_line total
+unfolding line_of total
 begun_end ws cells whole at line e b =
     let n : length line ≡ at + 1 = rw e at b.long in
     let l : length line ≤ suc at = omega arith in
