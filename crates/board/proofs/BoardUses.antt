@@ -2,10 +2,11 @@
 -- the plain reading that Rattle makes of what the function ensures, and by nothing else. Assumes nothing.
 use Prim.Native.Nat.{ℕ}
 use mathlib.Core.Path.{◌≡◌, sym, subst}
-use mathlib.Core.List.{List}
+use mathlib.Core.List.{List, []}
 use contract.Lifetimes.{Lfts}
 use denote.Triple.Clauses.{AtExit}
-use borrow.Fn.Kinds.{Dens, ended_of}
+use denote.Triple.Impl.{rested}
+use borrow.Fn.Kinds.{Dens, slots, kepts, ended_of}
 use Rattle.rules.specs.declared.Seven.{Seven}
 use Rattle.rules.specs.declared.Opened.{Opened}
 use Rattle.rules.specs.declared.Called.{Called}
@@ -44,3 +45,19 @@ calling_post (calling κs a out x p) = p
 
 pub call_asks : (r : Register) → Kept r → CallAsks r
 call_asks r k κs a e = subst Kept (sym e) k
+
+-- ---- and whatever the contract allows is a use: nothing more is known of one
+
+pub post_opening : {text : List ℕ} {r : Opened} → OpenPost text r → Opening text r
+post_opening {text} {r} p =
+    let a : Dens ([], tt) open-kinds.ps = (record { ref_ptr = (0, 0); now = text }, tt) in
+    opening ([], tt) a r (rested 1 ([], tt) (slots open-kinds.ps) (kepts open-kinds.ps) a) p
+
+pub post_calling : {before : Register} {s : Seven} {buffer : List ℕ} {out : Called} {buffer' : List ℕ}
+    → CallPost before s buffer out buffer'
+    → Calling before s buffer out buffer'
+post_calling {before} {s} {buffer} {out} {buffer'} p =
+    let lent : List ℕ → Dens ([], tt) call-kinds.ps =
+    λ bytes. (before, (s, (record { ref_ptr = (0, 0); ghost_name = 0; now = bytes }, tt))) in
+    calling ([], tt) (lent buffer) out
+    (rested 1 ([], tt) (slots call-kinds.ps) (kepts call-kinds.ps) (lent buffer')) p

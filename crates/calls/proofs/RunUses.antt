@@ -2,10 +2,11 @@
 -- Rattle makes of what the function ensures, and by nothing else. Assumes nothing.
 use Prim.Native.Nat.{ℕ}
 use mathlib.Core.Path.{◌≡◌, sym, subst}
-use mathlib.Core.List.{List}
+use mathlib.Core.List.{List, []}
 use contract.Lifetimes.{Lfts}
 use denote.Triple.Clauses.{AtExit}
-use borrow.Fn.Kinds.{Dens, ended_of}
+use denote.Triple.Impl.{rested}
+use borrow.Fn.Kinds.{Dens, slots, kepts, ended_of}
 use Rattle.rules.specs.declared.Register.{Register}
 use Rattle.rules.specs.Step.{Kept}
 use Rattle.calls.specs.Run.{RunPost}
@@ -32,3 +33,17 @@ running_post (running κs a out x p) = p
 
 pub run_asks : (r : Register) → Kept r → RunAsks r
 run_asks r k κs a e = subst Kept (sym e) k
+
+-- ---- and whatever the contract allows is a use: nothing more is known of one
+
+pub post_running : {before : Register} {text buffer : List ℕ} {out : Ran} {buffer' : List ℕ}
+    → RunPost before text buffer out.register out.lines buffer'
+    → Running before text buffer out buffer'
+post_running {before} {text} {buffer} {out} {buffer'} p =
+    let κs : Lfts 2 = ([], ([], tt)) in
+    let lent : List ℕ → Dens κs run-kinds.ps =
+    λ bytes. (
+      before,
+      (record { ref_ptr = (0, 0); now = text }, (record { ref_ptr = (0, 0); ghost_name = 0; now = bytes }, tt)),
+    ) in
+    running κs (lent buffer) out (rested 2 κs (slots run-kinds.ps) (kepts run-kinds.ps) (lent buffer')) p

@@ -6,8 +6,8 @@
 use Prim.Native.Nat.{ℕ, ◌*◌, ◌/◌, ◌≤◌, ◌<◌}
 use mathlib.Core.Path.{◌≡◌, refl, sym, ap, ap₂, subst, subst₂, ◌∙◌}
 use mathlib.Core.Bool.{true, false}
-use mathlib.Core.List.{List, [], ◌∷◌, ◌++◌, map}
-use lib.ListN.{length, drop, get_or}
+use mathlib.Core.List.{List, [], ◌∷◌, ◌++◌, map, append_assoc, append-nil}
+use lib.ListN.{length, drop, get_or, replicate, length-replicate}
 use borrow.Author.Tests.{lt-ltb, le-ltb}
 use Rattle.std.specs.Prelude.{Some, Result}
 use Rattle.lists.specs.Distinct.{Distinct}
@@ -54,6 +54,7 @@ use Rattle.calls.proofs.RunUses.{Running, RunAsks, running_post, run_asks}
 use Rattle.sheet.proofs.SheetUses.{WritingSheet, SheetAsks, sheet_post, sheet_asks}
 use Rattle.claims.specs.Told.{Told, answers_of, tells, numbers_due, requests}
 use Rattle.claims.proofs.Counted.{numbers_from_1, last_is_count}
+use Rattle.claims.proofs.Possible.{open_possible, call_possible, run_possible, sheet_possible}
 use Rattle.claims.proofs.Ran.{Ran, ran_open, ran_call, ran_run}
 use Rattle.claims.proofs.Telling.{tells_append, tells_trace, told_since, run_told}
 
@@ -329,3 +330,35 @@ module _ {r : Register} {page : List ℕ} {out : Result ℕ Refusal} {page' : Li
       let e = le-ltb (length page) 2409 l in
       let b = ran_board h in
       (p.answered ∙ rw e, p.counted ∙ rw (e, b), p.bytes ∙ rw (e, b))
+
+-- ---- no contract asks what can't be
+
+module _ {plan : List ℕ} {ms : List Made} {ts : List Told} {r : Register} (h : Ran plan ms ts r) where
+  -- whatever the call, the text or the page, each function can return what its contract says
+  pub can_call : (s : Seven) (buffer : List ℕ)
+      → (called : Called) × (buffer' : List ℕ) × Calling r s buffer called buffer'
+  can_call = call_possible plan ms r (ran_board h)
+
+  pub can_run : (text buffer : List ℕ) → (ran : AfterRun) × (buffer' : List ℕ) × Running r text buffer ran buffer'
+  can_run = run_possible plan ms r (ran_board h)
+
+  pub can_write_sheet : (page : List ℕ) → (out : Result ℕ Refusal) × (page' : List ℕ) × WritingSheet r page out page'
+  can_write_sheet = sheet_possible r
+
+-- so after any of them each further list of calls can be made, and on each plan each list of calls: what is claimed
+-- above is claimed of every plan and every list of calls
+more_calls : {plan : List ℕ} (ms' : List Made) {ms : List Made} {ts : List Told} {r : Register} → Ran plan ms ts r
+    → (ts' : List Told) × (r' : Register) × Ran plan (ms ++ ms') ts' r'
+more_calls [] {ms} {ts} {r} h = (ts, r, rw (append-nil ms) h)
+more_calls {plan} (m ∷ ms') {ms} h =
+    let (called, buffer', c) = can_call h m.seven (replicate m.room 0) in
+    let (ts', r', k) = more_calls ms' (ran_call h c) in (
+      ts',
+      r',
+      subst (λ (l : List Made). Ran plan l ts' r')
+          (ap (λ (n : ℕ). (ms ++ (record { seven = m.seven; room = n } ∷ [])) ++ ms') (length-replicate m.room 0)
+          ∙ append_assoc ms (m ∷ []) ms') k,
+    )
+
+pub ran_exists : (plan : List ℕ) (ms : List Made) → (ts : List Told) × (r : Register) × Ran plan ms ts r
+ran_exists plan ms = let (opened, o) = open_possible plan in more_calls ms (ran_open o)

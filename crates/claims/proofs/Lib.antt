@@ -2,4 +2,5 @@
 pub mod Ran
 pub mod Telling
 pub mod Counted
+pub mod Possible
 pub mod Claims

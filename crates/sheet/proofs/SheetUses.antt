@@ -2,10 +2,11 @@
 -- of what the function ensures, and by nothing else. Assumes nothing.
 use Prim.Native.Nat.{ℕ}
 use mathlib.Core.Path.{◌≡◌, sym, subst}
-use mathlib.Core.List.{List}
+use mathlib.Core.List.{List, []}
 use contract.Lifetimes.{Lfts}
 use denote.Triple.Clauses.{AtExit}
-use borrow.Fn.Kinds.{Dens, ended_of}
+use denote.Triple.Impl.{rested}
+use borrow.Fn.Kinds.{Dens, slots, kepts, ended_of}
 use Rattle.std.specs.Prelude.{Result}
 use Rattle.rules.specs.declared.Register.{Register}
 use Rattle.rules.specs.declared.refusal.Refusal.{Refusal}
@@ -34,3 +35,15 @@ sheet_post (writing_sheet κs a out x p) = p
 
 pub sheet_asks : (r : Register) → Kept r → SheetAsks r
 sheet_asks r k κs a e = subst Kept (sym e) k
+
+-- ---- and whatever the contract allows is a use: nothing more is known of one
+
+pub post_sheet : {register : Register} {page : List ℕ} {out : Result ℕ Refusal} {page' : List ℕ}
+    → SheetPost register page (answer_no out) (lines_no out) page'
+    → WritingSheet register page out page'
+post_sheet {register} {page} {out} {page'} p =
+    let κs : Lfts 2 = ([], ([], tt)) in
+    let lent : List ℕ → Dens κs sheet-kinds.ps =
+    λ bytes.
+    (record { ref_ptr = (0, 0); now = register }, (record { ref_ptr = (0, 0); ghost_name = 0; now = bytes }, tt)) in
+    writing_sheet κs (lent page) out (rested 2 κs (slots sheet-kinds.ps) (kepts sheet-kinds.ps) (lent page')) p
