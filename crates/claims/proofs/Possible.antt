@@ -1,15 +1,16 @@
--- No contract asks what can't be: after every list of calls there is a register that stands for the board that the rules
--- give, each such register is one that the functions may be handed, and the next call can return what is asked of it.
+-- No contract asks what can't be: after every list of calls there is a register that stands for the board that the
+-- rules give, each such register is one that the functions may be handed, and each can return what its contract says.
 -- Assumes nothing.
 use Prim.Native.Nat.{ℕ, zero, suc, ◌+◌, ◌*◌, ◌/◌, ◌≤◌, ◌<◌}
 use native.Mathlib.Omega.{arith}
 use mathlib.Core.Path.{◌≡◌, refl, sym, ap, subst, ◌∙◌}
-use mathlib.Core.Bool.{Bool, true, false, cond, not, ◌&&◌, false≢true}
+use mathlib.Core.Bool.{Bool, true, false, cond, ◌&&◌, true≢false}
 use mathlib.Core.List.{List, [], ◌∷◌, ◌++◌, map}
 use lib.Dec.{eqb}
 use lib.ListN.{length, get_or, drop}
 use borrow.Author.Tests.{eqb-true, eq-eqb, ne_eqb}
 use Rattle.std.specs.Prelude.{Option, Some, None, Result, Ok, Err}
+use Rattle.std.proofs.lemmas.Bool.{cond_both}
 use Rattle.lists.proofs.Tests.{and_l, and_r}
 use Rattle.rules.specs.declared.AuthorityNo.{AuthorityNo}
 use Rattle.rules.specs.declared.Called.{Called}
@@ -75,19 +76,17 @@ starts_list plan ms =
     let o = fresh plan in
     starts_final (open_board plan) ms (subst Starts (sym o.is_opened) (starts_opened o.portions o.gates))
 
--- THEOREM: a register that stands for the board after a list of calls, on a board opened from any plan text, is one that
--- each function may be handed
+-- THEOREM: a register that stands for the board after a list of calls, on a board opened from any plan text, is one
+-- that each function may be handed
 pub stands_kept : (plan : List ℕ) (ms : List Made) (r : Register) → board_of r ≡ final (open_board plan) ms → Kept r
 unfolding board_of
 stands_kept plan ms r e =
-    let b : Board = final (open_board plan) ms in
     let follows = list_follows plan ms in
     let once : Once (board_of r) = subst Once (sym e) (once_final (open_board plan) ms (once_open plan)) in
-    let gates : length r.gates.items ≤ 64 = subst (λ (b : Board). length b.gates ≤ 64) (sym e) follows.gates in
     record {
       bounds = record {
         portions = subst (λ (b : Board). b.portions ≤ 64) (sym e) follows.portions;
-        gates = gates;
+        gates = subst (λ (b : Board). length b.gates ≤ 64) (sym e) follows.gates;
         booked =
             subst (λ (b : Board). length b.bookings ≤ 64) (sym e)
             (omega (arith, (list_booked plan ms).places, follows.gates));
@@ -97,13 +96,6 @@ stands_kept plan ms r e =
       once = once;
       starts = subst Starts (sym e) (starts_list plan ms);
     }
-
--- THEOREM: and there is one
-pub register_for : (plan : List ℕ) (ms : List Made) → (r : Register) × Kept r × (board_of r ≡ final (open_board plan) ms)
-register_for plan ms =
-    let b : Board = final (open_board plan) ms in
-    let e : board_of (register_of b) ≡ b = stands b in
-    (register_of b, stands_kept plan ms (register_of b) e, e)
 
 -- ---- a refusal of each number
 
@@ -122,7 +114,8 @@ number_at : (k : ℕ) (xs : List Refusal) (i : ℕ) → numbered_from k xs ≡ t
     → refusal_no (get_or xs i ShortLine) ≡ k + i
 unfolding numbered_from
 number_at k [] i h l = absurd (omega arith)
-number_at k (x ∷ xs) zero h l = omega (arith, eqb-true (refusal_no x) k (and_l (eqb (refusal_no x) k) (numbered_from (suc k) xs) h))
+number_at k (x ∷ xs) zero h l =
+    omega (arith, eqb-true (refusal_no x) k (and_l (eqb (refusal_no x) k) (numbered_from (suc k) xs) h))
 number_at k (x ∷ xs) (suc i) h l =
     number_at (suc k) xs i (and_r (eqb (refusal_no x) k) (numbered_from (suc k) xs) h) (omega arith) ∙ omega arith
 
@@ -157,30 +150,25 @@ one_call : (b : Board) (s : Seven) (room : ℕ) → final b (record { seven = s;
 unfolding final
 one_call b s room = refl
 
+open_answered : (z : Bool) → answer_no {A = Unit {0}} (cond z (Ok tt) (Err Plan)) ≡ cond z 0 20
+open_answered true = refl
+open_answered false = refl
+
 pub open_possible : (plan : List ℕ) → (opened : Opened) × Opening plan opened
 unfolding open_answer
 open_possible plan =
-    let b : Board = open_board plan in
-    let e : board_of (register_of b) ≡ b = stands b in
-    let kept : Kept (register_of b) = stands_kept plan [] (register_of b) (e ∙ sym (no_call b)) in
-    go (is_plan plan) refl e kept
-  where
-    go : (z : Bool) → is_plan plan ≡ z → board_of (register_of (open_board plan)) ≡ open_board plan
-        → Kept (register_of (open_board plan))
-        → (opened : Opened) × Opening plan opened
-    go true z e k =
-        let opened : Opened = record { register = register_of (open_board plan); answer = Ok tt } in
-        (opened, post_opening (record { board = e; answered = rw z; kept = k }))
-    go false z e k =
-        let opened : Opened = record { register = register_of (open_board plan); answer = Err Plan } in
-        (opened, post_opening (record { board = e; answered = rw z; kept = k }))
+    let r : Register = register_of (open_board plan) in
+    let e : board_of r ≡ open_board plan = stands (open_board plan) in
+    let opened : Opened = record { register = r; answer = cond (is_plan plan) (Ok tt) (Err Plan) } in (
+      opened,
+      post_opening (record {
+        board = e;
+        answered = open_answered (is_plan plan);
+        kept = stands_kept plan [] r (e ∙ sym (no_call (open_board plan)));
+      }),
+    )
 
 module _ (plan : List ℕ) (ms : List Made) (r : Register) (e : board_of r ≡ final (open_board plan) ms) where
-  -- a register for the board after more calls; where it is the board that r stands for, r itself
-  next : (b : Board) (same : Bool) → (same ≡ true → b ≡ board_of r) → (n : Register) × (board_of n ≡ b)
-  next b true h = (r, sym (h refl))
-  next b false h = (register_of b, stands b)
-
   pub call_possible : (s : Seven) (buffer : List ℕ)
       → (called : Called) × (buffer' : List ℕ) × Calling r s buffer called buffer'
   unfolding allotted
@@ -192,9 +180,11 @@ module _ (plan : List ℕ) (ms : List Made) (r : Register) (e : board_of r ≡ f
       let given : Result (Option AuthorityNo) Refusal = answer_with a request (suc b.last) in
       let g : Gives a request (suc b.last) given = gives a request (suc b.last) (answer_most b s room) in
       let call : List Made = record { seven = s; room = room } ∷ [] in
-      let stays : not (eqb a 0) ≡ true → after b s room ≡ b =
-      λ refused. refused_same b s room (λ z. false≢true (sym (ap not (eq-eqb a 0 z)) ∙ refused)) in
-      let (n, en) = next (after b s room) (not (eqb a 0)) stays in
+      let n : Register = cond (eqb a 0) (register_of (after b s room)) r in
+      let en : board_of n ≡ after b s room =
+      cond_both (eqb a 0) (register_of (after b s room)) r (λ x. board_of x ≡ after b s room)
+      (λ accepted. stands (after b s room))
+      (λ refused. sym (refused_same b s room (λ z. true≢false (sym (eq-eqb a 0 z) ∙ refused)))) in
       let is_next : board_of n ≡ final (open_board plan) (ms ++ call) =
       en ∙ ap (λ (c : Board). after c s room) e ∙ sym (one_call (final (open_board plan) ms) s room)
       ∙ sym (final_append (open_board plan) ms call) in

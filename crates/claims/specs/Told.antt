@@ -1,4 +1,4 @@
--- What is told of a call: what a line of the journal says of it. And the numbers that REQUESTs are due. Assumes nothing.
+-- What is told of a call, as a line of the journal says it, and the numbers that REQUESTs are due. Assumes nothing.
 use Rattle.std.specs.Prelude.{ℕ, zero, suc, Bool, true, false, ◌&&◌, List, [], ◌∷◌, map, length, take, drop, get_or}
 use Rattle.std.specs.Prelude.{eqb, Option, Result}
 use Rattle.std.specs.List.{filter}
