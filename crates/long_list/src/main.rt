@@ -2,8 +2,13 @@
 // a list can reach.
 #![tactic(auto)]
 
+use folder::Names;
 use std::process::ExitCode;
 
 fn main(rt: HostRuntime) -> ExitCode {
-    folder::print_journal(&rt)
+    let names = Names {
+        plan: b"plan",
+        calls: b"calls",
+    };
+    folder::print_journal(&rt, names, &mut rt.stdout(), &mut rt.stderr())
 }
