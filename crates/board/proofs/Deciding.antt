@@ -276,7 +276,7 @@ others = (
 )
 
 -- a call is a REQUEST where its number is 1, and in no other case
-request_one : (s : Seven) (n : ℕ) (kind : Kind) (first last officer : ℕ)
+pub request_one : (s : Seven) (n : ℕ) (kind : Kind) (first last officer : ℕ)
     → (entry_of n).named s ≡ Some (Request kind first last officer) → n ≡ 1
 unfolding entry_of calls
 request_one s zero kind first last officer e = cc
@@ -287,7 +287,7 @@ request_one s (suc (suc n)) kind first last officer e =
     (λ s k f l o e. cc) s kind first last officer e))
     (lt_or_le n 16)
 
-one_request : (s : Seven) → s.call ≡ 1 → named s ≡ Some (Request (kind_of s.a) s.b s.c s.d)
+pub one_request : (s : Seven) → s.call ≡ 1 → named s ≡ Some (Request (kind_of s.a) s.b s.c s.d)
 unfolding named entry_of calls
 one_request s e = rw e
 

@@ -1,6 +1,6 @@
--- The laws that the functions' proofs cite, and the run of a board over the functions themselves.
+-- The laws that the functions' proofs cite, and what one use of `open` or `call` is.
 pub mod Deciding
 pub mod Calling
 pub mod OpeningBoard
 pub mod JournalWritten
-pub mod Ran
+pub mod BoardUses

@@ -17,7 +17,7 @@ use Rattle.rules.specs.Refusals.{answer}
 use Rattle.rules.specs.Step.{Once, after, allotted}
 use Rattle.rules.proofs.Answers.{answer_most}
 use Rattle.rules.proofs.Once.{once_after}
-use Rattle.rules.proofs.JournalLength.{Small, line_55}
+use Rattle.rules.proofs.JournalLength.{nine, Small, line_55}
 use Rattle.std.specs.Prelude.{Option, Some, None}
 use Rattle.calls.specs.CallLine.{line_in}
 use Rattle.calls.specs.CallsIn.{unless_malformed, calls_in}
@@ -31,14 +31,18 @@ use Rattle.calls.proofs.Parts.{line_on}
 abbrev pub SmallCall : Seven → Type 0
 SmallCall c = Each Small (numbers_of c)
 
-line_on_lem : (b : Board) (c : Seven) → Once b → SmallCall c → length (line_on b c) ≡ 55
-unfolding allotted
-line_on_lem b c o (p, (q, (r, (s, (t, (u, (v, w))))))) =
-    let few : allotted b c 55 ≤ 10000 =
-    cond_both (eqb (answer b c 55) 0 && eqb c.call 1) (suc b.last) 0 (λ n. n ≤ 10000) (λ e. omega (arith, o.last))
-    (λ e. omega arith) in
-    line_55 c (answer b c 55) (allotted b c 55)
-    (p, (q, (r, (s, (t, (u, (v, (omega (arith, answer_most b c 55), (omega arith, w)))))))))
+-- the nine numbers of the line of a call on a board are of 16 bits, and the line is 55 bytes long
+module _ (b : Board) (c : Seven) (o : Once b) where
+  pub line_small : SmallCall c → Each Small (nine c (answer b c 55) (allotted b c 55))
+  unfolding allotted
+  line_small (p, (q, (r, (s, (t, (u, (v, w))))))) =
+      let few : allotted b c 55 ≤ 10000 =
+      cond_both (eqb (answer b c 55) 0 && eqb c.call 1) (suc b.last) 0 (λ n. n ≤ 10000) (λ e. omega (arith, o.last))
+      (λ e. omega arith) in
+      (p, (q, (r, (s, (t, (u, (v, (omega (arith, answer_most b c 55), (omega arith, w)))))))))
+
+  pub line_on_length : SmallCall c → length (line_on b c) ≡ 55
+  line_on_length h = line_55 c (answer b c 55) (allotted b c 55) (line_small h)
 
 -- THEOREM: 55 bytes for each call
 pub journal-length : (b : Board) (calls : List Seven) → Once b → Each SmallCall calls
@@ -47,7 +51,7 @@ unfolding journal
 journal-length b [] o h = refl
 journal-length b (c ∷ calls) o h =
     let rest = journal-length (after b c 55) calls (once_after b c 55 o) h.1 in
-    rw (length-append (line_on b c) (journal (after b c 55) calls), line_on_lem b c o h.0, rest) (omega arith)
+    rw (length-append (line_on b c) (journal (after b c 55) calls), line_on_length b c o h.0, rest) (omega arith)
 
 -- ---- the calls of a text are such calls
 
@@ -58,7 +62,7 @@ each_small (n ∷ ns) h =
     let small = leb-true n 65535 (and_l (leb n 65535) (at_most 65535 ns) h) in
     (omega arith, each_small ns (and_r (leb n 65535) (at_most 65535 ns) h))
 
-calls_small : (n : ℕ) (text : List ℕ) → Each SmallCall (calls_in n text)
+pub calls_small : (n : ℕ) (text : List ℕ) → Each SmallCall (calls_in n text)
 unfolding calls_in
 calls_small zero text = tt
 calls_small (suc n) text = go (line_in (take 43 text)) refl (calls_small n (drop 43 text))

@@ -13,11 +13,7 @@ use Rattle.rules.specs.declared.Seven.{Seven}
 use Rattle.rules.specs.Board.{Board}
 use Rattle.rules.specs.Refusals.{answer}
 use Rattle.rules.specs.Journal.{journal_line}
-use Rattle.rules.specs.Plan.{open_board}
-use Rattle.rules.specs.Step.{Made, Answered, after, allotted, trace, final}
-use Rattle.rules.specs.Reckoning.{start, reckoned}
-use Rattle.rules.specs.Claim.{Safe}
-use Rattle.rules.proofs.Safety.{demand_3}
+use Rattle.rules.specs.Step.{Made, after, allotted, final}
 use Rattle.std.specs.Prelude.{Option, Some, None}
 use Rattle.calls.specs.CallLine.{line_in}
 use Rattle.calls.specs.CallsIn.{unless_malformed, calls_in}
@@ -138,30 +134,3 @@ journal_append b [] ys = refl
 journal_append b (c ∷ xs) ys =
     rw (journal_append (after b c 55) xs ys)
     (sym (append_assoc (line_on b c) (journal (after b c 55) xs) (journal (final (after b c 55) (map made xs)) ys)))
-
--- ---- the answers in the journal are those of the trace
-
--- the number allotted to each call, 0 to most
-unfoldable pub allotted_in : Board → List Seven → List ℕ
-allotted_in b [] = []
-allotted_in b (c ∷ calls) = allotted b c 55 ∷ allotted_in (after b c 55) calls
-
--- the journal lines of calls that were answered, with the numbers allotted to them
-unfoldable pub lines_of : List Answered → List ℕ → List ℕ
-lines_of [] numbers = []
-lines_of (a ∷ answers) [] = []
-lines_of (a ∷ answers) (n ∷ numbers) = journal_line a.seven a.answer n ++ lines_of answers numbers
-
--- THEOREM: the journal of a list of calls is the lines of its trace
-pub run_trace : (b : Board) (calls : List Seven)
-    → journal b calls ≡ lines_of (trace b (map made calls)) (allotted_in b calls)
-unfolding journal trace allotted_in lines_of
-run_trace b [] = refl
-run_trace b (c ∷ calls) = ap (λ (l : List ℕ). line_on b c ++ l) (run_trace (after b c 55) calls)
-
--- THEOREM, demand 3 for a text of calls: on a board opened from any plan, what is reckoned from its calls and their
--- answers, which are those that the journal shows, is safe
-pub run_safe : (plan text : List ℕ) (n : ℕ)
-    → Safe (open_board plan).gates
-    (reckoned (open_board plan).gates start (trace (open_board plan) (map made (calls_in n text))))
-run_safe plan text n = demand_3 plan (map made (calls_in n text))

@@ -1,6 +1,6 @@
--- The laws of the sheet that its proofs stand on, and its theorems over a run of the board (Ran).
+-- The laws of the sheet that its proofs stand on, and what one use of `write_sheet` is.
 pub mod Holding
 pub mod Fitting
 pub mod PageLines
 pub mod Pages
-pub mod RanSheets
+pub mod SheetUses

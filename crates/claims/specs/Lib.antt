@@ -1,0 +1,2 @@
+-- What the claims cite beside the rules.
+pub mod Told

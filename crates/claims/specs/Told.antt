@@ -1,0 +1,64 @@
+-- What is told of a call, as a line of the journal says it, and the numbers that REQUESTs are due. Assumes nothing.
+use Rattle.std.specs.Prelude.{ℕ, zero, suc, Bool, true, false, ◌&&◌, List, [], ◌∷◌, map, length, take, drop, get_or}
+use Rattle.std.specs.Prelude.{eqb, Option, Result}
+use Rattle.std.specs.List.{filter}
+use Rattle.columns.specs.Reading.{row_of}
+use Rattle.rules.specs.declared.AuthorityNo.{AuthorityNo}
+use Rattle.rules.specs.declared.Seven.{Seven}
+use Rattle.rules.specs.declared.refusal.Refusal.{Refusal}
+use Rattle.rules.specs.Answer.{answer_no, number_no}
+use Rattle.rules.specs.Board.{Board}
+use Rattle.rules.specs.Journal.{journal_widths}
+use Rattle.rules.specs.Refusals.{answer}
+use Rattle.rules.specs.Step.{Made, Answered, after, allotted}
+use Rattle.calls.specs.CallLine.{seven_of}
+
+-- "the seven numbers, the answer (0 or refusal), the number allotted by REQUEST (else 0)"
+pub record Told : Type 0 where
+  pub seven : Seven
+  pub answer : ℕ
+  pub number : ℕ
+
+-- of a call that returned this answer
+abbrev pub told : Seven → Result (Option AuthorityNo) Refusal → Told
+told s given = record { seven = s; answer = answer_no given; number = number_no given }
+
+-- of a line of a journal: its nine numbers, "each right-justified in 6 columns"
+unfoldable pub told_on : List ℕ → Told
+told_on line = by_numbers (row_of 65535 journal_widths line).numbers
+  where
+    by_numbers : List ℕ → Told
+    by_numbers ns = record { seven = seven_of ns; answer = get_or ns 7 0; number = get_or ns 8 0 }
+
+-- of the first n lines of a buffer, 55 bytes each
+unfoldable pub told_in : ℕ → List ℕ → List Told
+told_in zero buffer = []
+told_in (suc n) buffer = told_on (take 55 buffer) ∷ told_in n (drop 55 buffer)
+
+-- the calls with their answers, as the reckoning reads them
+abbrev pub answers_of : List Told → List Answered
+answers_of ts = map (λ t. record { seven = t.seven; answer = t.answer }) ts
+
+-- what the rules tell of a list of calls: each is handed the board that the call before it returned
+unfoldable pub tells : Board → List Made → List Told
+tells b [] = []
+tells b (m ∷ ms) =
+    record { seven = m.seven; answer = answer b m.seven m.room; number = allotted b m.seven m.room }
+    ∷ tells (after b m.seven m.room) ms
+
+-- ---- the numbers that are due
+
+-- an accepted REQUEST
+abbrev pub is_request : Answered → Bool
+is_request c = eqb c.answer 0 && eqb c.seven.call 1
+
+-- "The nth REQUEST gives authority n": where n numbers were given before, each accepted REQUEST is due the next, and
+-- any other call 0
+unfoldable pub numbers_due : ℕ → List Answered → List ℕ
+numbers_due n [] = []
+numbers_due n (c ∷ cs) =
+    elim (is_request c) [ true ↦ suc n ∷ numbers_due (suc n) cs | false ↦ 0 ∷ numbers_due n cs ]
+
+-- how many REQUESTs were accepted
+abbrev pub requests : List Answered → ℕ
+requests cs = length (filter is_request cs)
