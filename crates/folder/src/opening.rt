@@ -1,4 +1,6 @@
 // A working folder opened: the board of its plan, and the file of its calls.
+ghost use Rattle.folder.specs.Outcomes.{PlanOpened};
+
 use crate::failure::Failure;
 use crate::input::{open, read_file};
 use crate::open_board::Board;
@@ -17,7 +19,9 @@ pub struct Names<'a> {
 }
 
 // Opens the board of a plan's text. Where the plan is refused there is none: its answer is printed.
-fn open_plan<W: Write>(text: &[u8], output: &mut W) -> Result<Option<Board>, Failure<'static>> {
+fn open_plan<W: Write>(text: &[u8], output: &mut W) -> Result<Option<Board>, Failure<'static>>
+    ensures { PlanOpened text.now (W.contents output.old) (W.contents output.new) result }
+{
     let (board, answer) = Board::open(text);
     match answer {
         Ok(()) => Ok(Some(board)),

@@ -1,11 +1,17 @@
 // What is printed, written to a writer that stands for standard output.
-ghost use Rattle.std.specs.Prelude.{◌≤◌};
+ghost use Rattle.std.specs.Prelude.{◌≤◌, [], ◌∷◌, OnOk, IfErr, replicate};
+ghost use Rattle.std.specs.Io.KnownBytes.{Appends};
+ghost use Rattle.columns.specs.Line.{line};
+ghost use Rattle.folder.specs.Outcomes.{IsFile};
 
 use crate::failure::Failure;
 use std::io::Write;
 
 // Prints the text.
-pub fn print<W: Write>(output: &mut W, text: &[u8]) -> Result<(), Failure<'static>> {
+pub fn print<W: Write>(output: &mut W, text: &[u8]) -> Result<(), Failure<'static>>
+    ensures written { OnOk result (Appends (W.contents output.old) (W.contents output.new) text.now) }
+    ensures failed { IfErr result IsFile }
+{
     output.write_all(text).map_err(|error| Failure::File {
         name: b"standard output",
         error,
@@ -18,6 +24,8 @@ pub fn print_row<W: Write, const N: usize>(
     numbers: [u16; N],
 ) -> Result<(), Failure<'static>>
     requires { N ≤ 4 }
+    ensures { OnOk result (Appends (W.contents output.old) (W.contents output.new)
+        (line (replicate N 6) numbers.entry)) }
 {
     let mut line = [b'\n'; 4 * 6 + 1];
     columns::write_line(&mut line, &[6; N], &numbers.map(u32::from));
@@ -25,6 +33,8 @@ pub fn print_row<W: Write, const N: usize>(
 }
 
 // Prints a number in 6 columns and a line feed.
-pub fn print_number<W: Write>(output: &mut W, n: u16) -> Result<(), Failure<'static>> {
+pub fn print_number<W: Write>(output: &mut W, n: u16) -> Result<(), Failure<'static>>
+    ensures { OnOk result (Appends (W.contents output.old) (W.contents output.new) (line (6 ∷ []) (n ∷ []))) }
+{
     print_row(output, [n])
 }

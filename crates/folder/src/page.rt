@@ -1,4 +1,10 @@
 // The shift sheet, printed.
+ghost use Rattle.std.specs.Prelude.{IfSome, OnOk, IfErr};
+ghost use Rattle.std.specs.Io.KnownBytes.{Appends};
+ghost use Rattle.rules.specs.Board.{board_of};
+ghost use Rattle.rules.specs.Sheet.{sheet};
+ghost use Rattle.folder.specs.Outcomes.{IsFile, PageAfter};
+
 use crate::failure::{Failure, end_run};
 use crate::open_board::Board;
 use crate::opening::{Names, open_folder};
@@ -9,12 +15,15 @@ use std::process::ExitCode;
 use std::rt::Files;
 
 // Prints the sheet of a board: 33 lines of 73 bytes are room enough.
-pub fn print_page<W: Write>(board: &Board, output: &mut W) -> Result<(), Failure<'static>> {
+pub fn print_page<W: Write>(board: &Board, output: &mut W) -> Result<(), Failure<'static>>
+    ensures written { OnOk result (Appends (W.contents output.old) (W.contents output.new)
+        (sheet (board_of board.now))) }
+    ensures failed { IfErr result IsFile }
+{
     let mut page = [0; 33 * 73];
     match board.write_sheet(&mut page) {
         Ok(lines) => print(output, &page[..73 * lines]),
-        // Every board has a sheet with no more lines, so this isn't reached.
-        Err(_) => Ok(()),
+        Err(_) => unreachable!("33 lines are room for every sheet"),
     }
 }
 
@@ -24,7 +33,10 @@ fn print_page_after<'a, F: Read, W: Write>(
     file: &mut F,
     name: &'a [u8],
     output: &mut W,
-) -> Result<(), Failure<'a>> {
+) -> Result<(), Failure<'a>>
+    ensures { IfSome (F.remaining file.old) (λ calls.
+        PageAfter (board_of opened) calls (W.contents output.old) (W.contents output.new) result) }
+{
     let board = run_calls(opened, file, name, &mut sink())?;
     print_page(&board, output)
 }

@@ -1,6 +1,7 @@
 // One piece of a file of calls: the calls made on the board, and how the file goes on behind the piece.
 ghost use Rattle.std.specs.Prelude.{◌≡◌, ◌*◌, ◌^◌, ◌<◌, ◌≤◌, length};
-ghost use Rattle.calls.specs.Run.{RunPost};
+ghost use Rattle.rules.specs.Board.{board_of};
+ghost use Rattle.folder.specs.Behind.{behind, PieceRan};
 
 use crate::open_board::Board;
 
@@ -22,6 +23,7 @@ pub enum Rest {
 // so many bytes, and there was room for so many.
 fn rest_behind(before: u64, lines: usize, bytes: usize, room: usize) -> Rest
     requires { (before < 2 ^ 60) × (lines ≤ 1024) }
+    ensures { result ≡ behind before lines bytes room }
 {
     if CALL_SIZE * lines != bytes {
         return Rest::Malformed {
@@ -42,7 +44,7 @@ pub fn run_piece(
     out: &mut [u8],
 ) -> (Board, usize, Rest)
     requires { (before < 2 ^ 60) × (length out.old ≡ 56320) }
-    ensures ran { RunPost board text.now out.old result.0 result.1 out.new }
+    ensures ran { PieceRan before room (board_of board) text.now result.0 result.1 result.2 out.new }
     ensures within { 55 * result.1 ≤ length out.old }
 {
     let (board, lines) = board.run(text, out);

@@ -1,5 +1,7 @@
 // The calls of a file made in pieces of whole lines, and their journal written as they are made.
-ghost use Rattle.std.specs.Prelude.{◌≡◌, length};
+ghost use Rattle.std.specs.Prelude.{◌≡◌, length, IfSome};
+ghost use Rattle.rules.specs.Board.{board_of};
+ghost use Rattle.folder.specs.Outcomes.{RanAll};
 
 use crate::failure::Failure;
 use crate::input::fill;
@@ -33,13 +35,15 @@ fn run_pieces<'a, F: Read, W: Write>(
     output: &mut W,
 ) -> Result<Board, Failure<'a>>
     requires { (length text.old ≡ 44032) × (length out.old ≡ 56320) }
+    ensures { IfSome (F.remaining file.old) (λ calls.
+        RanAll (board_of opened) calls (W.contents output.old) (W.contents output.new) result) }
 {
     let mut board = opened;
     for piece in 0..MOST_PIECES {
         let filled = fill(file, text);
         // Kept: a cast, which loses nothing: a count of lines has no `From` into 64 bits.
         let before = PIECE_LINES as u64 * piece;
-        let (next, lines, rest) = run_piece(board, before, &text[..filled.bytes], text.len(), out);
+        let (next, lines, rest) = run_piece(board, before, &text[..filled.bytes], CALLS_SIZE, out);
         board = next;
         print(output, &out[..LINE_SIZE * lines])?;
         filled.check(name)?;
@@ -66,7 +70,10 @@ pub fn run_calls<'a, F: Read, W: Write>(
     file: &mut F,
     name: &'a [u8],
     output: &mut W,
-) -> Result<Board, Failure<'a>> {
+) -> Result<Board, Failure<'a>>
+    ensures { IfSome (F.remaining file.old) (λ calls.
+        RanAll (board_of opened) calls (W.contents output.old) (W.contents output.new) result) }
+{
     let mut text = room::<CALLS_SIZE>();
     let mut out = room::<LINES_SIZE>();
     run_pieces(opened, file, name, &mut text, &mut out, output)
