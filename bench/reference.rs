@@ -1,5 +1,5 @@
-//! The track authority board, read from 01-scope.md and orders 1 to 7 of
-//! 02-change-requests.md and from nothing else.
+//! The track authority board, read from document 01 and orders 1 to 7 of
+//! document 02, without a look at the definitions.
 //!
 //! A plain program: it reads the files `plan` and `calls` in the working
 //! folder and prints the journal on standard output; with the argument `sheet`

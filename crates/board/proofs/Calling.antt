@@ -1,7 +1,7 @@
 -- A call on a register by value, and its line: a buffer long enough is as good as one of 55 bytes. Assumes nothing.
 use Prim.Native.Nat.{ℕ, ◌≤◌, ◌<◌}
 use native.Mathlib.Omega.{arith}
-use mathlib.Core.Path.{◌≡◌, sym, ◌∙◌}
+use mathlib.Core.Path.{◌≡◌, sym, refl, ◌∙◌}
 use mathlib.Core.List.{List, ◌++◌}
 use lib.ListN.{length, drop}
 use borrow.Author.Tests.{le-ltb, ne_eqb}
@@ -45,6 +45,7 @@ called_short r s buffer k h =
       number = sym (refused_none (board_of r) s (length buffer) no);
       numbered = rw (ne_eqb (answer (board_of r) s (length buffer)) 0 no);
       line = sym (short_line s 1 0 buffer h);
+      unchanged = λ e. refl;
       kept = k;
     }
 
@@ -58,5 +59,6 @@ called_long r s buffer buffer' out h p e = record {
   number = p.number ∙ sym (room-allotted (board_of r) s (length buffer) h);
   numbered = rw (room-answer (board_of r) s (length buffer) h) p.numbered;
   line = e ∙ sym (long_line s (answer_no out.answer) (number_no out.answer) buffer h);
+  unchanged = p.unchanged;
   kept = p.kept;
 }

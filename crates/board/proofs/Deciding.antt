@@ -4,6 +4,7 @@ use Rattle.std.proofs.Common.{◌≡◌, refl, sym, ap, subst, ◌∙◌, ℕ, s
 use Rattle.std.proofs.Common.{ne_eqb, arith, Option, Some, None, Result, Ok, Err}
 use Rattle.std.proofs.Common.{zero, ⊎_elim, drop}
 use lib.ListN.{get_or-eq_default}
+use Rattle.std.specs.Prelude.{IsErr}
 use Rattle.std.specs.Option.{ok_or}
 use Rattle.std.specs.Result.{IsErrAnd}
 use Rattle.std.proofs.lemmas.Result.{err_from_is_err_and}
@@ -142,6 +143,7 @@ taken_refused r s refusal k e =
       answered = e;
       number = sym (refused_none (board_of r) s 55 no);
       numbered = rw (ne_eqb (answer (board_of r) s 55) 0 no);
+      unchanged = λ e. refl;
       kept = k;
     }
 
@@ -213,6 +215,7 @@ taken_accepted r s c out given k is z e accepted number numbered =
       answered = accepted ∙ sym z;
       number = number_is b s z number;
       numbered = rw (eq-eqb (answer b s 55) 0 z) numbered;
+      unchanged = λ refused. absurd (not_refused given accepted refused);
       kept = record {
         bounds = bounds_stay r out c s.day s.time k.bounds e (subst Once (sym after_is) (once_after b s 55 k.once));
         once = subst Once (sym after_is) (once_after b s 55 k.once);
@@ -223,6 +226,10 @@ taken_accepted r s c out given k is z e accepted number numbered =
     accepted_after : (b : Board) (s : Seven) (d : Board) → with_room b s ≡ 0 → d ≡ effect b (named s)
         → with_stamp s.day s.time d ≡ after b s 55
     accepted_after b s d z e = unfold after in rw (eq-eqb (answer b s 55) 0 z, e)
+
+    not_refused : (given : Result (Option AuthorityNo) Refused.Refusal) → answer_no given ≡ 0 → IsErr given → ⊥
+    not_refused (Ok n) e refused = cc
+    not_refused (Err refusal) e refused = positive refusal e
 
     number_is : (b : Board) (s : Seven) {n : ℕ} → with_room b s ≡ 0 → n ≡ cond (eqb s.call 1) (suc b.last) 0
         → n ≡ allotted b s 55

@@ -1,5 +1,5 @@
 -- A call that has room for its line: all of it but its line. Assumes nothing.
-use Rattle.std.specs.Prelude.{ℕ, ◌≡◌, ◌&&◌, Option, Some, Result, IfOk, eqb}
+use Rattle.std.specs.Prelude.{ℕ, ◌≡◌, ◌&&◌, Option, Some, Result, IfOk, IsErr, eqb}
 use Rattle.rules.specs.declared.AuthorityNo.{AuthorityNo}
 use Rattle.rules.specs.declared.Seven.{Seven}
 use Rattle.rules.specs.declared.Call.{Call}
@@ -28,4 +28,6 @@ pub record TakePost
   pub answered : answer_no given ≡ answer (board_of before) s 55
   pub number : number_no given ≡ allotted (board_of before) s 55
   pub numbered : is_numbered given ≡ (eqb (answer (board_of before) s 55) 0 && eqb s.call 1)
+  -- a refused call "leaves the register as before": the very one that it was handed
+  pub unchanged : IsErr given → register ≡ before
   pub kept : Kept register

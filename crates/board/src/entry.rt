@@ -1,5 +1,5 @@
 // The two entries: open and call.
-ghost use Rattle.std.specs.Prelude.{◌≡◌, [], ◌++◌, ◌≤◌, length, drop};
+ghost use Rattle.std.specs.Prelude.{◌≡◌, [], ◌++◌, ◌≤◌, length, drop, ltb};
 ghost use Rattle.rules.specs.Answer.{answer_no, number_no};
 ghost use Rattle.rules.specs.Board.{board_of, opened};
 ghost use Rattle.rules.specs.Journal.{journal_line};
@@ -77,6 +77,13 @@ fn write_journal(line: &mut [u8], s: Seven, answer: Answer)
     columns::write_line(line, &[6; 9], &numbers);
 }
 
+// 1: the buffer is under 55 bytes.
+fn is_short(line: &[u8]) -> bool
+    ensures { result ≡ ltb (length line.now) 55 }
+{
+    line.len() < 55
+}
+
 // Takes one call: any seven numbers, any buffer for its line. A buffer under 55 bytes gives 1 and stays as it was.
 // Kept: `requires { Kept register }`, as the architecture has it of each entry: here and in take, calls and sheet. An
 // invariant of Register would be asked of the effects too, which promise theirs for any register, also where the call
@@ -85,7 +92,7 @@ pub fn call(mut register: Register, seven: Seven, line: &mut [u8]) -> Called
     requires { Kept register }
     ensures { CallPost register seven line.old result line.new }
 {
-    if line.len() < 55 {
+    if is_short(line) {
         return Called {
             register,
             answer: Err(Refusal::ShortLine),

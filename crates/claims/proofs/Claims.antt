@@ -37,7 +37,7 @@ use Rattle.rules.specs.Sheet.{now_of, authority_cells, sheet_lines, sheet}
 use Rattle.rules.specs.Step.{Made, Answered, Once, Kept, after, trace, final}
 use Rattle.rules.proofs.Agreements.{Recorded, list_agreements, list_lpas}
 use Rattle.rules.proofs.Answers.{NoneHolds, Refused, accepted_none, none_accepted, refused_lowest, lowest_refused}
-use Rattle.rules.proofs.Answers.{refused_same, refused_none, short_line, long_line}
+use Rattle.rules.proofs.Answers.{refused_none, short_line, long_line}
 use Rattle.rules.proofs.Bookings.{Booked, NeededBy, list_booked, limits_protected, needed_not_restored}
 use Rattle.rules.proofs.Equality.{equal_same, NoneOfLpas, same_equal}
 use Rattle.rules.proofs.Once.{held_once}
@@ -56,7 +56,7 @@ use Rattle.claims.specs.Told.{Told, answers_of, tells, numbers_due, requests}
 use Rattle.claims.proofs.Counted.{numbers_from_1, last_is_count}
 use Rattle.claims.proofs.Possible.{open_possible, call_possible, run_possible, sheet_possible}
 use Rattle.claims.proofs.Ran.{Ran, ran_open, ran_call, ran_run}
-use Rattle.claims.proofs.Telling.{tells_append, tells_trace, told_since, run_told}
+use Rattle.claims.proofs.Telling.{tells_append, tells_trace, told_since, refused_err, run_told}
 
 -- ---- what is asked is always met
 
@@ -155,12 +155,13 @@ module _ {before : Register} {s : Seven} {buffer : List ℕ} {called : Called} {
   pub returns_same : Same (board_of called.register) (after b s room)
   returns_same = equal_same (board_of called.register) (after b s room) (calling_post c).board
 
-  -- "A refused call [..] leaves the register as before", and returns authority number 0
-  pub refused_keeps : (given ≡ 0 → ⊥) → (board_of called.register ≡ b) × (number_no called.answer ≡ 0)
+  -- "A refused call [..] leaves the register as before": it returns the very register, and authority number 0
+  pub refused_keeps : (given ≡ 0 → ⊥) → (called.register ≡ before) × (number_no called.answer ≡ 0)
   refused_keeps h =
-      let p = calling_post c in
-      let no : answer b s room ≡ 0 → ⊥ = λ z. h (p.answered ∙ z) in
-      (p.board ∙ refused_same b s room no, p.number ∙ refused_none b s room no)
+      let p = calling_post c in (
+        p.unchanged (refused_err called.answer h),
+        p.number ∙ refused_none b s room (λ z. h (p.answered ∙ z)),
+      )
 
   -- a buffer that is too short stays untouched; any other has the line, and its later bytes stay
   pub short_stays : room < 55 → buffer' ≡ buffer

@@ -9,7 +9,7 @@ use mathlib.Core.List.{List, [], ◌∷◌, ◌++◌, map}
 use lib.Dec.{eqb}
 use lib.ListN.{length, get_or, drop}
 use borrow.Author.Tests.{eqb-true, eq-eqb, ne_eqb}
-use Rattle.std.specs.Prelude.{Option, Some, None, Result, Ok, Err}
+use Rattle.std.specs.Prelude.{Option, Some, None, Result, Ok, Err, IsErr}
 use Rattle.std.proofs.lemmas.Bool.{cond_both}
 use Rattle.lists.proofs.Tests.{and_l, and_r}
 use Rattle.rules.specs.declared.AuthorityNo.{AuthorityNo}
@@ -129,15 +129,17 @@ record Gives (a : ℕ) (request : Bool) (n : ℕ) (given : Result (Option Author
   answered : answer_no given ≡ a
   number : number_no given ≡ cond (eqb a 0 && request) n 0
   numbered : is_numbered given ≡ (eqb a 0 && request)
+  refused : IsErr given → eqb a 0 ≡ false
 
 gives : (a : ℕ) (request : Bool) (n : ℕ) → a ≤ 25 → Gives a request n (answer_with a request n)
 unfolding answer_with refusals numbered_from
-gives zero true n h = record { answered = refl; number = refl; numbered = refl }
-gives zero false n h = record { answered = refl; number = refl; numbered = refl }
+gives zero true n h = record { answered = refl; number = refl; numbered = refl; refused = λ no. absurd (true≢false (sym no)) }
+gives zero false n h = record { answered = refl; number = refl; numbered = refl; refused = λ no. absurd (true≢false (sym no)) }
 gives (suc k) request n h = record {
   answered = number_at 1 refusals k refl (omega arith) ∙ omega arith;
   number = rw (ne_eqb (suc k) 0 (λ e. absurd (omega arith)));
   numbered = rw (ne_eqb (suc k) 0 (λ e. absurd (omega arith)));
+  refused = λ no. ne_eqb (suc k) 0 (λ e. absurd (omega arith));
 }
 
 -- ---- each use can return what its contract asks
@@ -197,6 +199,7 @@ module _ (plan : List ℕ) (ms : List Made) (r : Register) (e : board_of r ≡ f
           number = g.number;
           numbered = g.numbered;
           line = refl;
+          unchanged = λ no. rw (g.refused no);
           kept = stands_kept plan (ms ++ call) n is_next;
         }),
       )

@@ -9,10 +9,13 @@ use lib.ListN.{length, drop}
 use lib.Seq.{take_at, drop_at}
 use lib.Dec.{leb}
 use Rattle.std.proofs.lemmas.Bool.{and_from}
+use Rattle.std.specs.Prelude.{Result, Ok, Err, IsErr}
 use Rattle.lists.proofs.Search.{Each}
 use Rattle.columns.proofs.Rows.{at_most, read_line}
 use Rattle.rules.specs.declared.Seven.{Seven}
 use Rattle.rules.specs.declared.Register.{Register}
+use Rattle.rules.specs.declared.refusal.Refusal.{Refusal}
+use Rattle.rules.specs.Answer.{answer_no}
 use Rattle.rules.specs.Board.{Board, board_of}
 use Rattle.rules.specs.Refusals.{answer}
 use Rattle.rules.specs.Journal.{journal_widths, journal_line}
@@ -53,6 +56,11 @@ told_since b ms ms' ts ts' e e' =
     sym (drop_at (tells b ms) ts' (length (tells b ms)) refl) ∙ ap (drop (length (tells b ms))) both
     ∙ drop_at (tells b ms) (tells (final b ms) ms') (length (tells b ms)) refl in
     ap answers_of since ∙ tells_trace (final b ms) ms'
+
+-- an answer that isn't 0 is a refusal
+pub refused_err : {A : Type 0} (given : Result A Refusal) → (answer_no given ≡ 0 → ⊥) → IsErr given
+refused_err (Ok x) h = absurd (h refl)
+refused_err (Err refusal) h = refl
 
 -- ---- read back off the journal
 

@@ -2,8 +2,9 @@
 // matched by kind (module fields).
 #![tactic(auto)]
 
-ghost use Rattle.std.specs.Prelude.{◌≡◌};
-ghost use Rattle.rules.specs.Call.{kind_of, entry_of, named, decoded};
+ghost use Rattle.std.specs.Prelude.{◌≡◌, is_some};
+ghost use Rattle.rules.specs.Call.{kind_of, form, is_call, decoded};
+ghost use Rattle.decode.specs.Entries.{entry_of};
 
 mod fields;
 
@@ -11,98 +12,18 @@ use fields::is_in_form;
 use rules::{AuthorityNo, Call, Field, Form, GateNo, Kind, PaperNo, Refusal, Seven, TrainNo};
 use stamps::is_stamp;
 
-// The kinds of the four fields of the call with that number.
-// Kept: a match on the number, here and in `name`, as document 01 names the form.
-#[tactic(auto, unfolding(rules::specs::Call::entry_of, rules::specs::Call::calls))]
-fn form_of(call: u16) -> Form
-    ensures { result ≡ (entry_of call).form }
+// An entry of the table of calls, for seven numbers: the kinds of the four fields, and the call with its fields named.
+#[derive(Clone, Copy)]
+struct Entry {
+    form: Form,
+    call: Call,
+}
+
+// The kinds of a call's four fields, in order.
+const fn form(a: Field, b: Field, c: Field, d: Field) -> Form
+    ensures { result ≡ form a b c d }
 {
-    match call {
-        1 => Form {
-            a: Field::Kind,
-            b: Field::First,
-            c: Field::Last,
-            d: Field::Officer,
-        },
-        2 | 6 | 7 | 8 => Form {
-            a: Field::Authority,
-            b: Field::Officer,
-            c: Field::Unused,
-            d: Field::Unused,
-        },
-        3 => Form {
-            a: Field::Authority,
-            b: Field::Authority,
-            c: Field::Officer,
-            d: Field::Unused,
-        },
-        4 | 5 => Form {
-            a: Field::Gate,
-            b: Field::Unused,
-            c: Field::Unused,
-            d: Field::Unused,
-        },
-        9 => Form {
-            a: Field::Authority,
-            b: Field::Officer,
-            c: Field::Officer,
-            d: Field::Unused,
-        },
-        10 => Form {
-            a: Field::Authority,
-            b: Field::Officer,
-            c: Field::Assurances,
-            d: Field::Unused,
-        },
-        11 => Form {
-            a: Field::Authority,
-            b: Field::Authority,
-            c: Field::Officer,
-            d: Field::Officer,
-        },
-        12 => Form {
-            a: Field::Train,
-            b: Field::Gate,
-            c: Field::AuthorityOrNone,
-            d: Field::OfficerOrNone,
-        },
-        13 => Form {
-            a: Field::Train,
-            b: Field::Unused,
-            c: Field::Unused,
-            d: Field::Unused,
-        },
-        14 => Form {
-            a: Field::Authority,
-            b: Field::Day,
-            c: Field::Time,
-            d: Field::Length,
-        },
-        15 => Form {
-            a: Field::Authority,
-            b: Field::Authority,
-            c: Field::Officer,
-            d: Field::Distance,
-        },
-        16 => Form {
-            a: Field::Gate,
-            b: Field::Paper,
-            c: Field::Unused,
-            d: Field::Unused,
-        },
-        17 => Form {
-            a: Field::Gate,
-            b: Field::Paper,
-            c: Field::Certified,
-            d: Field::NewPaper,
-        },
-        _ => Form {
-            a: Field::Unused,
-            b: Field::Unused,
-            c: Field::Unused,
-            d: Field::Unused,
-        },
-    }
+    Form { a, b, c, d }
 }
 
 // The kind with that number; one that no authority has, which no REQUEST in its ranges names, stands for a TWA.
@@ -113,106 +34,209 @@ fn kind_of(n: u16) -> Kind
     Kind::try_from(n).unwrap_or(Kind::Twa)
 }
 
-// The call with its fields named, where one has the number.
-#[tactic(auto, unfolding(rules::specs::Call::named, rules::specs::Call::entry_of, rules::specs::Call::calls))]
-fn name(s: Seven) -> Option<Call>
-    ensures { result ≡ named s }
+// The entry of the call's number; none for 0 and for the range beyond, which no call has.
+// Kept: a match on the number, as document 01 names the form.
+#[tactic(auto, unfolding(rules::specs::Call::named, rules::specs::Call::entry_of, rules::specs::Call::calls, rules::specs::Call::is_call))]
+fn entry_of(s: Seven) -> Option<Entry>
+    ensures entry { result ≡ entry_of s }
+    ensures listed { is_some result ≡ is_call s.call }
 {
     match s.call {
-        1 => Some(Call::Request {
-            kind: kind_of(s.a),
-            first: s.b,
-            last: s.c,
-            officer: s.d,
+        1 => Some(Entry {
+            form: form(Field::Kind, Field::First, Field::Last, Field::Officer),
+            call: Call::Request {
+                kind: kind_of(s.a),
+                first: s.b,
+                last: s.c,
+                officer: s.d,
+            },
         }),
-        2 => Some(Call::Withdraw {
-            authority: AuthorityNo(s.a),
-            officer: s.b,
+        2 => Some(Entry {
+            form: form(
+                Field::Authority,
+                Field::Officer,
+                Field::Unused,
+                Field::Unused,
+            ),
+            call: Call::Withdraw {
+                authority: AuthorityNo(s.a),
+                officer: s.b,
+            },
         }),
-        3 => Some(Call::Agree {
-            toa: AuthorityNo(s.a),
-            twa: AuthorityNo(s.b),
-            officer: s.c,
+        3 => Some(Entry {
+            form: form(
+                Field::Authority,
+                Field::Authority,
+                Field::Officer,
+                Field::Unused,
+            ),
+            call: Call::Agree {
+                toa: AuthorityNo(s.a),
+                twa: AuthorityNo(s.b),
+                officer: s.c,
+            },
         }),
-        4 => Some(Call::Block { gate: GateNo(s.a) }),
-        5 => Some(Call::Unblock { gate: GateNo(s.a) }),
-        6 => Some(Call::Grant {
-            authority: AuthorityNo(s.a),
-            officer: s.b,
+        4 => Some(Entry {
+            form: form(Field::Gate, Field::Unused, Field::Unused, Field::Unused),
+            call: Call::Block { gate: GateNo(s.a) },
         }),
-        7 => Some(Call::Clear {
-            authority: AuthorityNo(s.a),
-            officer: s.b,
+        5 => Some(Entry {
+            form: form(Field::Gate, Field::Unused, Field::Unused, Field::Unused),
+            call: Call::Unblock { gate: GateNo(s.a) },
         }),
-        8 => Some(Call::Reoccupy {
-            authority: AuthorityNo(s.a),
-            officer: s.b,
+        6 => Some(Entry {
+            form: form(
+                Field::Authority,
+                Field::Officer,
+                Field::Unused,
+                Field::Unused,
+            ),
+            call: Call::Grant {
+                authority: AuthorityNo(s.a),
+                officer: s.b,
+            },
         }),
-        9 => Some(Call::HandOver {
-            authority: AuthorityNo(s.a),
-            out: s.b,
-            into: s.c,
+        7 => Some(Entry {
+            form: form(
+                Field::Authority,
+                Field::Officer,
+                Field::Unused,
+                Field::Unused,
+            ),
+            call: Call::Clear {
+                authority: AuthorityNo(s.a),
+                officer: s.b,
+            },
         }),
-        10 => Some(Call::Fulfil {
-            authority: AuthorityNo(s.a),
-            officer: s.b,
-            assurances: s.c,
+        8 => Some(Entry {
+            form: form(
+                Field::Authority,
+                Field::Officer,
+                Field::Unused,
+                Field::Unused,
+            ),
+            call: Call::Reoccupy {
+                authority: AuthorityNo(s.a),
+                officer: s.b,
+            },
         }),
-        11 => Some(Call::Continue {
-            old: AuthorityNo(s.a),
-            new: AuthorityNo(s.b),
-            officer_old: s.c,
-            officer_new: s.d,
+        9 => Some(Entry {
+            form: form(
+                Field::Authority,
+                Field::Officer,
+                Field::Officer,
+                Field::Unused,
+            ),
+            call: Call::HandOver {
+                authority: AuthorityNo(s.a),
+                out: s.b,
+                into: s.c,
+            },
         }),
-        12 => Some(Call::Move {
-            train: TrainNo(s.a),
-            gate: GateNo(s.b),
-            authority: AuthorityNo(s.c),
-            officer: s.d,
+        10 => Some(Entry {
+            form: form(
+                Field::Authority,
+                Field::Officer,
+                Field::Assurances,
+                Field::Unused,
+            ),
+            call: Call::Fulfil {
+                authority: AuthorityNo(s.a),
+                officer: s.b,
+                assurances: s.c,
+            },
         }),
-        13 => Some(Call::Passed {
-            train: TrainNo(s.a),
+        11 => Some(Entry {
+            form: form(
+                Field::Authority,
+                Field::Authority,
+                Field::Officer,
+                Field::Officer,
+            ),
+            call: Call::Continue {
+                old: AuthorityNo(s.a),
+                new: AuthorityNo(s.b),
+                officer_old: s.c,
+                officer_new: s.d,
+            },
         }),
-        14 => Some(Call::Term {
-            authority: AuthorityNo(s.a),
-            day: s.b,
-            time: s.c,
-            length: s.d,
+        12 => Some(Entry {
+            form: form(
+                Field::Train,
+                Field::Gate,
+                Field::AuthorityOrNone,
+                Field::OfficerOrNone,
+            ),
+            call: Call::Move {
+                train: TrainNo(s.a),
+                gate: GateNo(s.b),
+                authority: AuthorityNo(s.c),
+                officer: s.d,
+            },
         }),
-        15 => Some(Call::Join {
-            twa: AuthorityNo(s.a),
-            toa: AuthorityNo(s.b),
-            officer: s.c,
-            distance: s.d,
+        13 => Some(Entry {
+            form: form(Field::Train, Field::Unused, Field::Unused, Field::Unused),
+            call: Call::Passed {
+                train: TrainNo(s.a),
+            },
         }),
-        16 => Some(Call::BookOut {
-            gate: GateNo(s.a),
-            paper: PaperNo(s.b),
+        14 => Some(Entry {
+            form: form(Field::Authority, Field::Day, Field::Time, Field::Length),
+            call: Call::Term {
+                authority: AuthorityNo(s.a),
+                day: s.b,
+                time: s.c,
+                length: s.d,
+            },
         }),
-        17 => Some(Call::BookIn {
-            gate: GateNo(s.a),
-            paper: PaperNo(s.b),
-            certified: s.c == 1,
-            new: PaperNo(s.d),
+        15 => Some(Entry {
+            form: form(
+                Field::Authority,
+                Field::Authority,
+                Field::Officer,
+                Field::Distance,
+            ),
+            call: Call::Join {
+                twa: AuthorityNo(s.a),
+                toa: AuthorityNo(s.b),
+                officer: s.c,
+                distance: s.d,
+            },
         }),
-        _ => None,
+        16 => Some(Entry {
+            form: form(Field::Gate, Field::Paper, Field::Unused, Field::Unused),
+            call: Call::BookOut {
+                gate: GateNo(s.a),
+                paper: PaperNo(s.b),
+            },
+        }),
+        17 => Some(Entry {
+            form: form(Field::Gate, Field::Paper, Field::Certified, Field::NewPaper),
+            call: Call::BookIn {
+                gate: GateNo(s.a),
+                paper: PaperNo(s.b),
+                certified: s.c == 1,
+                new: PaperNo(s.d),
+            },
+        }),
+        0 | 18..=65535 => None,
     }
 }
 
 // The call that the seven numbers are, on a board of that many portions and gates: refused with 2 where no call has the
 // number, with 3 where the stamp or a field is out of its range.
-#[tactic(auto, unfolding(rules::specs::Call::decoded, rules::specs::Call::in_ranges, rules::specs::Call::is_call, rules::specs::Call::calls))]
+#[tactic(auto, unfolding(rules::specs::Call::decoded, rules::specs::Call::in_ranges))]
 pub fn decode(portions: u16, gates: usize, s: Seven) -> Result<Call, Refusal>
     ensures { result ≡ decoded portions gates s }
 {
-    if !(1..=17).contains(&s.call) {
+    let Some(entry) = entry_of(s) else {
         return Err(Refusal::NoSuchCall);
-    }
+    };
     if !is_stamp(s.day, s.time) {
         return Err(Refusal::Field);
     }
-    if !is_in_form(portions, gates, form_of(s.call), s) {
+    if !is_in_form(portions, gates, entry.form, s) {
         return Err(Refusal::Field);
     }
-    name(s).ok_or(Refusal::NoSuchCall)
+    Ok(entry.call)
 }

@@ -1,1 +1,3 @@
 mod PartRead
+mod WholeRuns
+mod FileRuns

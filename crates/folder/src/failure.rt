@@ -3,6 +3,7 @@ ghost use Rattle.std.specs.Prelude.{◌≡◌, IsOk, IsErr};
 ghost use Rattle.std.specs.Process.{exit_status};
 
 use std::fmt::InlineText;
+use std::io::Write;
 use std::process::ExitCode;
 use std::{fmt, io, str};
 
@@ -11,10 +12,23 @@ use std::{fmt, io, str};
 pub enum Failure<'a> {
     // A file could not be opened or read, or standard output could not be written.
     File { name: &'a [u8], error: io::Error },
-    // A line of the calls is malformed; lines count from 1.
-    Malformed { line: u64 },
-    // The calls went on and on. No file is so long.
-    Endless,
+    // A line of the calls, the file of that name, is malformed; lines count from 1.
+    Malformed { name: &'a [u8], line: u64 },
+    // The calls, the file of that name, went on and on. No file is so long.
+    Endless { name: &'a [u8] },
+}
+
+// The name of a file, as it is said.
+#[derive(Clone, Copy)]
+struct Name<'a>(&'a [u8]);
+
+impl fmt::Display for Name<'_> {
+    fn fmt<W: fmt::Write>(&self, f: &mut fmt::Formatter<W>) -> fmt::Result {
+        match str::from_utf8(self.0) {
+            Ok(name) => write!(f, "{name}"),
+            Err(_) => write!(f, "{}", self.0.escape_ascii()),
+        }
+    }
 }
 
 impl fmt::Display for Failure<'_> {
@@ -23,18 +37,16 @@ impl fmt::Display for Failure<'_> {
             Failure::File { name, error } => {
                 let text = InlineText::<128>::of(error);
                 let words = without_code(text.as_str());
-                match str::from_utf8(name) {
-                    Ok(name) => write!(f, "{name}: {words}"),
-                    Err(_) => write!(f, "{}: {words}", name.escape_ascii()),
-                }
+                write!(f, "{}: {words}", Name(name))
             }
-            Failure::Malformed { line } => {
+            Failure::Malformed { name, line } => {
                 write!(
                     f,
-                    "calls: line {line} is malformed, and no call is made from it on"
+                    "{}: line {line} is malformed, and no call is made from it on",
+                    Name(name)
                 )
             }
-            Failure::Endless => write!(f, "calls: the file has no end"),
+            Failure::Endless { name } => write!(f, "{}: the file has no end", Name(name)),
         }
     }
 }
@@ -47,21 +59,16 @@ fn without_code(text: &str) -> &str {
     }
 }
 
-// Says on standard error what failed, where something did.
-pub fn say_failure<R: Eprint>(rt: &R, outcome: Result<(), Failure>) {
-    if let Err(failure) = outcome {
-        let _ = eprintln!(rt; "{failure}");
-    }
-}
-
-// Ends a run: says on standard error what failed, where something did, and gives the exit status.
-pub fn end_run<R: Eprint>(rt: &R, outcome: Result<(), Failure>) -> ExitCode
+// Ends a run: says what failed, where something did, and gives the exit status.
+pub fn end_run<E: Write>(outcome: Result<(), Failure>, errors: &mut E) -> ExitCode
     ensures done { IsOk outcome.entry → exit_status result ≡ 0 }
     ensures failed { IsErr outcome.entry → exit_status result ≡ 1 }
 {
-    say_failure(rt, outcome);
     match outcome {
         Ok(()) => ExitCode::SUCCESS,
-        Err(_) => ExitCode::FAILURE,
+        Err(failure) => {
+            let _ = writeln!(errors, "{failure}");
+            ExitCode::FAILURE
+        }
     }
 }

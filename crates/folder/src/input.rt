@@ -1,7 +1,8 @@
 // Reading a file in large pieces.
-ghost use Rattle.std.specs.Prelude.{◌<◌, ◌↔◌, length, take, IsNone, IsOk};
+ghost use Rattle.std.specs.Prelude.{◌<◌, ◌↔◌, length, take, IsNone, IsOk, IfErr};
 ghost use Rattle.std.specs.Counts.{IsPrefixLen};
 ghost use Rattle.std.specs.Io.KnownBytes.{Consumes, IsAtEnd};
+ghost use Rattle.folder.specs.Outcomes.{IsFile};
 
 use crate::failure::Failure;
 use std::fs::File;
@@ -20,7 +21,8 @@ pub struct Filled {
 impl Filled {
     // Fails where a read failed; the file goes by that name.
     pub fn check<'a>(&self, name: &'a [u8]) -> Result<(), Failure<'a>>
-        ensures { IsOk result ↔ IsNone self.now.failed }
+        ensures ok { IsOk result ↔ IsNone self.now.failed }
+        ensures failed { IfErr result IsFile }
     {
         match self.failed {
             Some(error) => Err(Failure::File { name, error }),

@@ -7,12 +7,16 @@ mod failure;
 mod input;
 mod journal;
 mod open_board;
+mod opening;
 mod output;
 mod page;
+mod piece;
+mod pieces;
 
-pub use failure::{Failure, say_failure};
+pub use failure::{Failure, end_run};
 pub use input::{Filled, read_file};
-pub use journal::{PLAN_SIZE, print_journal};
+pub use journal::print_journal;
 pub use open_board::Board;
+pub use opening::{Names, PLAN_SIZE};
 pub use output::{print, print_number, print_row};
 pub use page::{print_page, print_sheet};

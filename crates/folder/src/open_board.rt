@@ -1,9 +1,10 @@
 // An open board: the register that opening and the calls have kept, the calls made on it, and its sheet.
-ghost use Rattle.std.specs.Prelude.{◌≡◌, ◌*◌, ◌≤◌, length};
+ghost use Rattle.std.specs.Prelude.{◌≡◌, ◌*◌, ◌/◌, ◌≤◌, length, take};
 ghost use Rattle.rules.specs.Answer.{answer_no, lines_no};
+ghost use Rattle.rules.specs.Board.{board_of};
 ghost use Rattle.rules.specs.Sheet.{SheetPost};
 ghost use Rattle.rules.specs.Step.{Kept, OpenPost, CallPost};
-ghost use Rattle.calls.specs.Run.{RunPost};
+ghost use Rattle.calls.specs.Run.{RunPost, run_of};
 
 use rules::{Answer, Refusal, Register, Seven};
 use std::marker::Model;
@@ -52,9 +53,11 @@ impl Board {
         (Board::new(called.register), called.answer)
     }
 
-    // Makes the calls of a text, as many as out has room for their lines, and gives how many it made.
+    // Makes the calls of a text, as many as out has room for their lines, and gives how many it made: these lines, 55
+    // bytes each, are their journal.
     pub fn run(self, text: &[u8], out: &mut [u8]) -> (Board, usize)
         ensures ran { RunPost self text.now out.old result.0 result.1 out.new }
+        ensures journal { take (55 * result.1) out.new ≡ (run_of (length out.old / 55) (board_of self) text.now).text }
         ensures within { 55 * result.1 ≤ length out.old }
     {
         let ran = calls::run(self.register, text, out);

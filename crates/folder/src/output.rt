@@ -1,29 +1,40 @@
-// Printing on standard output.
-ghost use Rattle.std.specs.Prelude.{◌≤◌};
+// What is printed, written to a writer that stands for standard output.
+ghost use Rattle.std.specs.Prelude.{◌≤◌, [], ◌∷◌, OnOk, IfErr, replicate};
+ghost use Rattle.std.specs.Io.KnownBytes.{Appends};
+ghost use Rattle.columns.specs.Line.{line};
+ghost use Rattle.folder.specs.Outcomes.{IsFile};
 
 use crate::failure::Failure;
+use std::io::Write;
 
 // Prints the text.
-pub fn print<R: Print>(rt: &R, text: &[u8]) -> Result<(), Failure<'static>> {
-    rt.write_all(text).map_err(|error| Failure::File {
+pub fn print<W: Write>(output: &mut W, text: &[u8]) -> Result<(), Failure<'static>>
+    ensures written { OnOk result (Appends (W.contents output.old) (W.contents output.new) text.now) }
+    ensures failed { IfErr result IsFile }
+{
+    output.write_all(text).map_err(|error| Failure::File {
         name: b"standard output",
         error,
     })
 }
 
 // Prints a row of up to four numbers, each in columns of 6, and a line feed.
-pub fn print_row<R: Print, const N: usize>(
-    rt: &R,
+pub fn print_row<W: Write, const N: usize>(
+    output: &mut W,
     numbers: [u16; N],
 ) -> Result<(), Failure<'static>>
     requires { N ≤ 4 }
+    ensures { OnOk result (Appends (W.contents output.old) (W.contents output.new)
+        (line (replicate N 6) numbers.entry)) }
 {
     let mut line = [b'\n'; 4 * 6 + 1];
     columns::write_line(&mut line, &[6; N], &numbers.map(u32::from));
-    print(rt, &line[..6 * N + 1])
+    print(output, &line[..6 * N + 1])
 }
 
 // Prints a number in 6 columns and a line feed.
-pub fn print_number<R: Print>(rt: &R, n: u16) -> Result<(), Failure<'static>> {
-    print_row(rt, [n])
+pub fn print_number<W: Write>(output: &mut W, n: u16) -> Result<(), Failure<'static>>
+    ensures { OnOk result (Appends (W.contents output.old) (W.contents output.new) (line (6 ∷ []) (n ∷ []))) }
+{
+    print_row(output, [n])
 }

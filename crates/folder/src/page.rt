@@ -1,31 +1,65 @@
 // The shift sheet, printed.
+ghost use Rattle.std.specs.Prelude.{IfSome, OnOk, IfErr};
+ghost use Rattle.std.specs.Io.KnownBytes.{Appends};
+ghost use Rattle.rules.specs.Board.{board_of};
+ghost use Rattle.rules.specs.Sheet.{sheet};
+ghost use Rattle.folder.specs.Outcomes.{IsFile, PageAfter};
+
 use crate::failure::{Failure, end_run};
-use crate::journal::run_folder;
 use crate::open_board::Board;
+use crate::opening::{Names, open_folder};
 use crate::output::print;
+use crate::pieces::run_calls;
+use std::io::{Read, Write, sink};
 use std::process::ExitCode;
 use std::rt::Files;
 
 // Prints the sheet of a board: 33 lines of 73 bytes are room enough.
-pub fn print_page<R: Print>(rt: &R, board: &Board) -> Result<(), Failure<'static>> {
+pub fn print_page<W: Write>(board: &Board, output: &mut W) -> Result<(), Failure<'static>>
+    ensures written { OnOk result (Appends (W.contents output.old) (W.contents output.new)
+        (sheet (board_of board.now))) }
+    ensures failed { IfErr result IsFile }
+{
     let mut page = [0; 33 * 73];
     match board.write_sheet(&mut page) {
-        Ok(lines) => print(rt, &page[..73 * lines]),
-        // Every board has a sheet with no more lines, so this isn't reached.
-        Err(_) => Ok(()),
+        Ok(lines) => print(output, &page[..73 * lines]),
+        Err(_) => unreachable!("33 lines are room for every sheet"),
     }
 }
 
-// Makes the calls and prints the sheet after them; there is none where the plan is refused.
-fn print_folder<R: Files + Print>(rt: &R) -> Result<(), Failure<'static>> {
-    match run_folder(rt, &|_lines: &[u8]| Ok(()))? {
-        Some(board) => print_page(rt, &board),
-        None => Ok(()),
-    }
+// Makes the calls of a file on the board, and prints the sheet after them, where all of them were made.
+fn print_page_after<'a, F: Read, W: Write>(
+    opened: Board,
+    file: &mut F,
+    name: &'a [u8],
+    output: &mut W,
+) -> Result<(), Failure<'a>>
+    ensures { IfSome (F.remaining file.old) (λ calls.
+        PageAfter (board_of opened) calls (W.contents output.old) (W.contents output.new) result) }
+{
+    let board = run_calls(opened, file, name, &mut sink())?;
+    print_page(&board, output)
 }
 
-// Prints the sheet after the calls of the files `plan` and `calls`, where all of them were made, and gives the exit
-// status.
-pub fn print_sheet<R: Files + Print + Eprint>(rt: &R) -> ExitCode {
-    end_run(rt, print_folder(rt))
+// Prints the sheet after the calls; there is none where the plan is refused.
+fn print_folder<'a, R: Files, W: Write>(
+    rt: &R,
+    names: Names<'a>,
+    output: &mut W,
+) -> Result<(), Failure<'a>> {
+    if let Some((board, mut file)) = open_folder(rt, names, output)? {
+        print_page_after(board, &mut file, names.calls, output)?;
+    }
+    Ok(())
+}
+
+// Prints the sheet after the calls of the plan and the calls of those names, where all of them were made, and gives the
+// exit status.
+pub fn print_sheet<R: Files, W: Write, E: Write>(
+    rt: &R,
+    names: Names,
+    output: &mut W,
+    errors: &mut E,
+) -> ExitCode {
+    end_run(print_folder(rt, names, output), errors)
 }

@@ -135,12 +135,17 @@ pub record Cases : Type 0 where
   -- E10: "a pending TOA over a TWA in force: 13"
   pub e10 : on_blocked (at 1 1 3 1 1 7 ∷ at 1 6 1 7 0 0 ∷ at 1 1 2 0 2 8 ∷ at 1 6 2 8 0 0 ∷ [])
       ≡ 0 ∷ 0 ∷ 0 ∷ 0 ∷ 0 ∷ 0 ∷ 0 ∷ 13 ∷ []
-  -- order 1: the six calls of E1 to E6 with an LPA in the first. It has no term, so GRANT is 22 and the gate is not
-  -- needed.
-  pub lpa : answers (Plan.open_board plan_text)
+  -- order 1: the six calls of E1 to E6 with an LPA in the first, byte for byte. It has no term, so E4 answers 22, and E5
+  -- 0, since the gate is not needed.
+  pub lpa : printed (Plan.open_board plan_text)
       (at 2200 1 1 1 1 7 ∷ at 2201 6 1 7 0 0 ∷ at 2202 4 1 0 0 0 ∷ at 2203 6 1 7 0 0 ∷ at 2204 5 1 0 0 0
       ∷ at 2260 5 1 0 0 0 ∷ [])
-      ≡ 0 ∷ 11 ∷ 0 ∷ 22 ∷ 0 ∷ 3 ∷ []
+      ≡ bytes "     0  2200     1     1     1     1     7     0     1\n"
+      ++ bytes "     0  2201     6     1     7     0     0    11     0\n"
+      ++ bytes "     0  2202     4     1     0     0     0     0     0\n"
+      ++ bytes "     0  2203     6     1     7     0     0    22     0\n"
+      ++ bytes "     0  2204     5     1     0     0     0     0     0\n"
+      ++ bytes "     0  2260     5     1     0     0     0     3     0\n"
   -- order 1: 10,079 minutes ahead is 21 and leaves no term, 10,080 serves; a second TERM is 8
   pub notice : on_term 7 559 60 (on 7 559 6 1 7 0 0 ∷ []) ≡ 0 ∷ 0 ∷ 21 ∷ 22 ∷ []
   pub week : on_term 7 600 60 (at 600 14 1 7 600 60 ∷ []) ≡ 0 ∷ 0 ∷ 0 ∷ 8 ∷ []

@@ -28,24 +28,25 @@ ByJoin x n y = (x.kind ≡ Twa) × (y.kind ≡ Toa) × (y.joined ≡ n)
 abbrev pub Agreed : Reckoned → ℕ → Reckoned → Type 0
 Agreed x n y = (x.since < y.since) × (ByAgree x n y ⊎ ByJoin x n y)
 
--- "authorities in force share no portion (save TOA and TWA by agreement)"
+-- "Two authorities in force share no portion, save a TOA and a TWA with an agreement between them."
 abbrev pub Apart : (ℕ → Reckoned) → Type 0
 Apart A =
     (m n p : ℕ) → (m ≡ n → ⊥) → Forced A m → Forced A n → In (A m) p → In (A n) p
     → Agreed (A m) m (A n) ⊎ Agreed (A n) n (A m)
 
--- "a train with its head in an LPA or TOA in force is under it"
+-- "A train with its head in the limits of an LPA or TOA in force is under that authority."
 abbrev pub Piloted : (ℕ → Reckoned) → (ℕ → Position) → Type 0
 Piloted A T =
     (t n : ℕ) → (T t).on_board ≡ true → Forced A n → exclusive (A n).kind ≡ true → In (A n) (T t).head → (T t).under ≡ n
 
--- "no train touches a TWA in force with workers on"
+-- "No train touches the limits of a TWA in force with workers on."
 abbrev pub Untouched : (ℕ → Reckoned) → (ℕ → Position) → Type 0
 Untouched A T =
     (t n : ℕ) → (T t).on_board ≡ true → Forced A n → (A n).kind ≡ Twa → (A n).has_workers_on ≡ true
     → (In (A n) (T t).head → ⊥) × (In (A n) (T t).rear → ⊥)
 
--- "each needed gate is blocked": of the gates of the plan, each whose "to" is in the limits and whose "from" isn't
+-- "Each gate that an authority in force needs is blocked.": of the gates of the plan, each whose "to" is in the limits
+-- and whose "from" isn't
 abbrev pub Protected : List Gate → (ℕ → Reckoned) → (ℕ → Bool) → Type 0
 Protected gates A B =
     (n g : ℕ) → Forced A n → g < length gates → In (A n) (gate_at gates g).to → (In (A n) (gate_at gates g).from → ⊥)

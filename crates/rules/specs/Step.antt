@@ -1,5 +1,5 @@
 -- One call as a whole, a list of calls, and the whole results of the functions `open` and `call`. Assumes nothing.
-use Rattle.std.specs.Prelude.{ℕ, suc, ◌*◌, ◌≤◌, ◌<◌, ◌≡◌, cond, ◌&&◌, length, eqb}
+use Rattle.std.specs.Prelude.{ℕ, suc, ◌*◌, ◌≤◌, ◌<◌, ◌≡◌, cond, ◌&&◌, length, eqb, IsErr}
 use mathlib.Core.List.{List, [], ◌∷◌, Memᴰ}
 use Rattle.lists.specs.Order.{Ascending}
 use Rattle.rules.specs.declared.Authority.{Authority}
@@ -93,4 +93,6 @@ pub record CallPost (before : Register) (s : Seven) (buffer : List ℕ) (r : Cal
   pub number : number_no r.answer ≡ allotted (board_of before) s (length buffer)
   pub numbered : is_numbered r.answer ≡ (eqb (answer (board_of before) s (length buffer)) 0 && eqb s.call 1)
   pub line : buffer' ≡ line_after s (answer_no r.answer) (number_no r.answer) buffer
+  -- a refused call "leaves the register as before": the very one that it was handed
+  pub unchanged : IsErr r.answer → r.register ≡ before
   pub kept : Kept r.register

@@ -2,8 +2,13 @@
 // outgoing supervisor.
 #![tactic(auto)]
 
+use folder::Names;
 use std::process::ExitCode;
 
 fn main(rt: HostRuntime) -> ExitCode {
-    folder::print_sheet(&rt)
+    let names = Names {
+        plan: b"plan",
+        calls: b"calls",
+    };
+    folder::print_sheet(&rt, names, &mut rt.stdout(), &mut rt.stderr())
 }

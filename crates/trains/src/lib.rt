@@ -9,19 +9,31 @@ ghost use Rattle.trains.specs.Trains.{SearchesEnds};
 
 use rules::{Authority, AuthorityNo, Kind, Train, TrainNo};
 
-// The train with that number.
+// The first train that passes the test by one of its ends, its head or its rear.
 // Kept: loops with a label, as document 01 names the form of these searches.
-pub fn find_train(trains: &[Train], n: TrainNo) -> Option<Train>
-    ensures { result ≡ find (is_train n.0) trains.now }
+#[tactic(auto, unfolding(crate::specs::Trains::SearchesEnds))]
+fn search_ends<F: Fn(Train, u16) -> bool>(trains: &[Train], passes: F) -> Option<Train>
+    requires { F.IsAlwaysCallable passes }
+    ensures { SearchesEnds (F.post passes) trains.now result }
 {
     let mut found = None;
     'search: for t in trains {
-        if t.number == n {
-            found = Some(*t);
-            break 'search;
+        for end in [t.head, t.rear] {
+            if passes(*t, end) {
+                found = Some(*t);
+                break 'search;
+            }
         }
     }
     found
+}
+
+// The train with that number, whichever its end.
+#[tactic(auto, using(crate::proofs::TrainLaws::numbered_by_ends))]
+pub fn find_train(trains: &[Train], n: TrainNo) -> Option<Train>
+    ensures { result ≡ find (is_train n.0) trains.now }
+{
+    search_ends(trains, |t, _| t.number == n)
 }
 
 // A train touches the set of portions.
@@ -29,7 +41,7 @@ pub fn find_train(trains: &[Train], n: TrainNo) -> Option<Train>
 pub fn is_any_touching(trains: &[Train], set: u64) -> bool
     ensures { result ≡ any (touches set) trains.now }
 {
-    is_any_end(trains, |_, end| sets::has(set, end))
+    search_ends(trains, |_, end| sets::has(set, end)).is_some()
 }
 
 // A train is in the way of a CONTINUE from old to a (refusal 12).
@@ -37,10 +49,11 @@ pub fn is_any_touching(trains: &[Train], set: u64) -> bool
 pub fn is_any_in_the_way(trains: &[Train], old: AuthorityNo, a: Authority) -> bool
     ensures { result ≡ any (in_the_way old.0 a) trains.now }
 {
-    is_any_end(trains, |t, end| {
+    search_ends(trains, |t, end| {
         sets::has(a.limits, end)
             && (a.kind == Kind::Twa || t.with != old || !sets::has(a.limits, t.head))
     })
+    .is_some()
 }
 
 // Another train than n touches the portion.
@@ -48,23 +61,5 @@ pub fn is_any_in_the_way(trains: &[Train], old: AuthorityNo, a: Authority) -> bo
 pub fn is_another_at(trains: &[Train], n: TrainNo, p: u16) -> bool
     ensures { result ≡ any (is_other_at n.0 p) trains.now }
 {
-    is_any_end(trains, |t, end| t.number != n && p != 99 && end == p)
-}
-
-// The test passes a train by one of its ends, its head or its rear.
-#[tactic(auto, unfolding(crate::specs::Trains::SearchesEnds))]
-fn is_any_end<F: Fn(Train, u16) -> bool>(trains: &[Train], passes: F) -> bool
-    requires { F.IsAlwaysCallable passes }
-    ensures { SearchesEnds (F.post passes) trains.now result }
-{
-    let mut met = false;
-    'search: for t in trains {
-        for end in [t.head, t.rear] {
-            if passes(*t, end) {
-                met = true;
-                break 'search;
-            }
-        }
-    }
-    met
+    search_ends(trains, |t, end| t.number != n && p != 99 && end == p).is_some()
 }

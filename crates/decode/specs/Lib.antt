@@ -1,0 +1,2 @@
+-- What the contracts of this crate cite beside the rules.
+pub mod Entries
