@@ -133,13 +133,15 @@ record Gives (a : ℕ) (request : Bool) (n : ℕ) (given : Result (Option Author
 
 gives : (a : ℕ) (request : Bool) (n : ℕ) → a ≤ 25 → Gives a request n (answer_with a request n)
 unfolding answer_with refusals numbered_from
-gives zero true n h = record { answered = refl; number = refl; numbered = refl; refused = λ no. absurd (true≢false (sym no)) }
-gives zero false n h = record { answered = refl; number = refl; numbered = refl; refused = λ no. absurd (true≢false (sym no)) }
+gives zero true n h =
+    record { answered = refl; number = refl; numbered = refl; refused = λ e. absurd (true≢false (sym e)) }
+gives zero false n h =
+    record { answered = refl; number = refl; numbered = refl; refused = λ e. absurd (true≢false (sym e)) }
 gives (suc k) request n h = record {
   answered = number_at 1 refusals k refl (omega arith) ∙ omega arith;
   number = rw (ne_eqb (suc k) 0 (λ e. absurd (omega arith)));
   numbered = rw (ne_eqb (suc k) 0 (λ e. absurd (omega arith)));
-  refused = λ no. ne_eqb (suc k) 0 (λ e. absurd (omega arith));
+  refused = λ e. ne_eqb (suc k) 0 (λ z. absurd (omega arith));
 }
 
 -- ---- each use can return what its contract asks
@@ -199,7 +201,7 @@ module _ (plan : List ℕ) (ms : List Made) (r : Register) (e : board_of r ≡ f
           number = g.number;
           numbered = g.numbered;
           line = refl;
-          unchanged = λ no. rw (g.refused no);
+          unchanged = λ e. rw (g.refused e);
           kept = stands_kept plan (ms ++ call) n is_next;
         }),
       )

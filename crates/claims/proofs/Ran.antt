@@ -1,6 +1,7 @@
 -- What is spoken of: a board opened by `open` from any text, and then any calls by `call` and any texts of calls by
 -- `run`, in any mixture, each on the register that the one before returned. A step is what its function's contract
--- ensures, at any argument; nothing else is known of it. Assumes nothing.
+-- ensures, at any argument; nothing else is known of it. `take` is no step, as Rattle makes no plain reading of a
+-- function that is lent a struct; `call` and `run` are made of it. Assumes nothing.
 use Prim.Native.Nat.{ℕ, ◌/◌}
 use mathlib.Core.List.{List, [], ◌∷◌, ◌++◌, map}
 use lib.ListN.{length}
