@@ -22,7 +22,6 @@ use Rattle.rules.specs.Refusals.{answer}
 use Rattle.rules.specs.Effects.{effect}
 use Rattle.rules.specs.Step.{Made, Answered, after, allotted, trace, final}
 use Rattle.rules.proofs.Opening.{fresh}
-use Rattle.rules.proofs.Traces.{answered_on}
 use Rattle.board.proofs.Deciding.{request_one, one_request}
 use Rattle.claims.specs.Told.{is_request, numbers_due, requests, tells}
 
@@ -73,6 +72,10 @@ module _ (b : Board) (s : Seven) where
       go false = refl
 
 -- ---- the numbers of a list of calls
+
+-- the call answered on a board
+abbrev answered_on : Board → Made → Answered
+answered_on b m = record { seven = m.seven; answer = answer b m.seven m.room }
 
 -- THEOREM: the numbers told of a list of calls are those due from the last number on
 tells_numbers : (b : Board) (ms : List Made) → map (λ t. t.number) (tells b ms) ≡ numbers_due b.last (trace b ms)

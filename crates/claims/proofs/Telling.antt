@@ -72,7 +72,7 @@ small_most (n ∷ ns) h =
     and_from (leb n 65535) (at_most 65535 ns) (le-leb n 65535 (omega (arith, h.0))) (small_most ns h.1)
 
 pub line_told : (s : Seven) (a n : ℕ) → Each Small (nine s a n)
-    → told_on (journal_line s a n) ≡ record { seven = s; answer = a; number = n }
+    → told_on (journal_line s a n) ≡ record { seven = s; answer = a; number = n } ∷ []
 unfolding told_on journal_line
 line_told s a n h =
     let small = small_most (nine s a n) h in
@@ -87,7 +87,7 @@ lines_told b (s ∷ calls) rest o h =
     let line = line_on b s in
     let others = journal (after b s 55) calls ++ rest in
     let long : length line ≡ 55 = line_on_length b s o h.0 in
-    let one : told_on line ≡ told_by b (made s) =
+    let one : told_on line ≡ told_by b (made s) ∷ [] =
     line_told s (answer b s 55) (allotted b s 55) (line_small b s o h.0) in
     rw (
       append_assoc line (journal (after b s 55) calls) rest,

@@ -1,6 +1,6 @@
 -- What is told of a call, as a line of the journal says it, and the numbers that REQUESTs are due. Assumes nothing.
-use Rattle.std.specs.Prelude.{ℕ, zero, suc, Bool, true, false, ◌&&◌, List, [], ◌∷◌, map, length, take, drop, get_or}
-use Rattle.std.specs.Prelude.{eqb, Option, Result}
+use Rattle.std.specs.Prelude.{ℕ, zero, suc, Bool, true, false, cond, ◌&&◌, List, [], ◌∷◌, ◌++◌, map, length, take, drop}
+use Rattle.std.specs.Prelude.{get_or, eqb, Option, Result}
 use Rattle.std.specs.List.{filter}
 use Rattle.columns.specs.Reading.{row_of}
 use Rattle.rules.specs.declared.AuthorityNo.{AuthorityNo}
@@ -23,17 +23,19 @@ pub record Told : Type 0 where
 abbrev pub told : Seven → Result (Option AuthorityNo) Refusal → Told
 told s given = record { seven = s; answer = answer_no given; number = number_no given }
 
--- of a line of a journal: its nine numbers, "each right-justified in 6 columns"
-unfoldable pub told_on : List ℕ → Told
-told_on line = by_numbers (row_of 65535 journal_widths line).numbers
-  where
-    by_numbers : List ℕ → Told
-    by_numbers ns = record { seven = seven_of ns; answer = get_or ns 7 0; number = get_or ns 8 0 }
+-- of the nine numbers of a line
+abbrev pub told_as : List ℕ → Told
+told_as ns = record { seven = seven_of ns; answer = get_or ns 7 0; number = get_or ns 8 0 }
+
+-- of a line of a journal: nine numbers, "each right-justified in 6 columns, then a line feed"; any other tells nothing
+unfoldable pub told_on : List ℕ → List Told
+told_on line =
+    cond (row_of 65535 journal_widths line).whole (told_as (row_of 65535 journal_widths line).numbers ∷ []) []
 
 -- of the first n lines of a buffer, 55 bytes each
 unfoldable pub told_in : ℕ → List ℕ → List Told
 told_in zero buffer = []
-told_in (suc n) buffer = told_on (take 55 buffer) ∷ told_in n (drop 55 buffer)
+told_in (suc n) buffer = told_on (take 55 buffer) ++ told_in n (drop 55 buffer)
 
 -- the calls with their answers, as the reckoning reads them
 abbrev pub answers_of : List Told → List Answered

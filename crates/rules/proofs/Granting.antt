@@ -35,7 +35,7 @@ use Rattle.rules.proofs.Answers.{condition_at}
 use Rattle.rules.proofs.Accepted.{Accepted}
 use Rattle.rules.proofs.Follows.{put_other, put_all, Held, Placed, giver, Follows, authority_there, there_ended}
 use Rattle.rules.proofs.Follows.{follows_amended, follows_ended, follows_trains}
-use Rattle.rules.proofs.Claims.{New, safe_put, safe_quieter}
+use Rattle.rules.proofs.KeepsSafe.{New, safe_put, safe_quieter}
 use Rattle.rules.proofs.Recording.{Keeps, toa_kind, twa_kind, twa_agreement, toa_agreement, here, there, is_live}
 use Rattle.rules.proofs.Recording.{held_there, held_anew, held_sited}
 

@@ -5,14 +5,13 @@ pub mod Accepted
 pub mod Opening
 pub mod Once
 pub mod Follows
-pub mod Claims
+pub mod KeepsSafe
 pub mod Recording
 pub mod Granting
 pub mod Moving
 pub mod Safety
 pub mod Equality
 pub mod JournalLength
-pub mod Traces
 pub mod Stays
 pub mod Agreements
 pub mod Terms

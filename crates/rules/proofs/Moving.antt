@@ -35,7 +35,7 @@ use Rattle.rules.proofs.Answers.{condition_at}
 use Rattle.rules.proofs.Accepted.{Accepted}
 use Rattle.rules.proofs.Follows.{put_same, put_other, put_all, Placed, AllPlaced, Follows, train_there, gone_member}
 use Rattle.rules.proofs.Follows.{runs_gone, placed_moved, follows_trains}
-use Rattle.rules.proofs.Claims.{Smaller, quiet_same, small_same, safe_less}
+use Rattle.rules.proofs.KeepsSafe.{Smaller, quiet_same, small_same, safe_less}
 use Rattle.rules.proofs.Recording.{Keeps, twa_kind, held_there}
 
 -- two numbers of which it can't be that they differ

@@ -45,7 +45,7 @@ use Rattle.rules.proofs.Accepted.{Accepted}
 use Rattle.rules.proofs.Follows.{put_same, put_other, put_all, Held, Placed, giver, Rests, Follows, reckoned_as}
 use Rattle.rules.proofs.Follows.{authority_there, ended_member, there_ended, follows_amended, follows_unreckoned}
 use Rattle.rules.proofs.Follows.{follows_ended, follows_trains, follows_beside}
-use Rattle.rules.proofs.Claims.{quiet_same, small_same, safe_less, safe_quieter}
+use Rattle.rules.proofs.KeepsSafe.{quiet_same, small_same, safe_less, safe_quieter}
 
 pub lpa_kind : (k : Kind) → is_lpa k ≡ true → k ≡ Lpa
 lpa_kind Lpa e = refl

@@ -27,7 +27,7 @@ use Rattle.rules.specs.Claim.{Safe}
 use Rattle.rules.proofs.Accepted.{Accepted, accepted}
 use Rattle.rules.proofs.Opening.{fresh}
 use Rattle.rules.proofs.Follows.{Follows, follows_beside}
-use Rattle.rules.proofs.Claims.{safe_start}
+use Rattle.rules.proofs.KeepsSafe.{safe_start}
 use Rattle.rules.proofs.Recording.{Keeps, keeps_request, keeps_withdraw, keeps_agree, keeps_join, keeps_block}
 use Rattle.rules.proofs.Recording.{keeps_unblock, keeps_clear, keeps_hand_over, keeps_term, keeps_book_out}
 use Rattle.rules.proofs.Recording.{keeps_book_in, keeps_fulfil}
