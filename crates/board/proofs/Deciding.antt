@@ -168,7 +168,7 @@ stamped day time r = record {
 sizes_stay : (b : Board) (c : Call)
     → ((effect b (Some c)).portions ≡ b.portions) × (length (effect b (Some c)).bookings ≡ length b.bookings)
 unfolding effect
-sizes_stay b (Request kind first last officer) = (refl, refl)
+sizes_stay b (Request kind low high officer) = (refl, refl)
 sizes_stay b (Withdraw n officer) = (refl, refl)
 sizes_stay b (Agree toa twa officer) = (refl, refl)
 sizes_stay b (Block g) = (refl, refl)
@@ -181,7 +181,7 @@ sizes_stay b (Fulfil n officer assurances) = (refl, refl)
 sizes_stay b (Continue old new officer_old officer_new) = (refl, refl)
 sizes_stay b (Move t g n officer) = (refl, refl)
 sizes_stay b (Passed t) = (refl, refl)
-sizes_stay b (Term n day time length) = (refl, refl)
+sizes_stay b (Term n day time minutes) = (refl, refl)
 sizes_stay b (Join twa toa officer distance) = (refl, refl)
 sizes_stay b (BookOut g paper) = (refl, length-set b.bookings g.0 (booked_out paper))
 sizes_stay b (BookIn g paper certified new) = (refl, length-set b.bookings g.0 (booked_in paper certified new))
@@ -233,7 +233,7 @@ taken_accepted r s c out given k is z e accepted number numbered =
 -- an entry that names another call than REQUEST
 abbrev OtherEntry : Entry → Type 0
 OtherEntry e =
-    (s : Seven) (kind : Kind) (first last officer : ℕ) → e.named s ≡ Some (Request kind first last officer) → ⊥
+    (s : Seven) (kind : Kind) (first last officer : ℕ) → e.named s ≡ Some (Request kind low high officer) → ⊥
 
 others : Each OtherEntry (drop 1 calls)
 unfolding calls
@@ -277,7 +277,7 @@ others = (
 
 -- a call is a REQUEST where its number is 1, and in no other case
 request_one : (s : Seven) (n : ℕ) (kind : Kind) (first last officer : ℕ)
-    → (entry_of n).named s ≡ Some (Request kind first last officer) → n ≡ 1
+    → (entry_of n).named s ≡ Some (Request kind low high officer) → n ≡ 1
 unfolding entry_of calls
 request_one s zero kind first last officer e = cc
 request_one s (suc zero) kind first last officer e = refl
@@ -292,20 +292,20 @@ unfolding named entry_of calls
 one_request s e = rw e
 
 pub taken_request : (r : Register) (s : Seven) (kind : Kind) (first last officer : ℕ) (out : Register) → Kept r
-    → named s ≡ Some (Request kind first last officer) → with_room (board_of r) s ≡ 0
-    → board_of out ≡ effect (board_of r) (Some (Request kind first last officer))
+    → named s ≡ Some (Request kind low high officer) → with_room (board_of r) s ≡ 0
+    → board_of out ≡ effect (board_of r) (Some (Request kind low high officer))
     → TakePost r s (stamped s.day s.time out) (Ok (Some (record { 0 = out.last })))
 unfolding board_of named effect
 taken_request r s kind first last officer out k is z e =
     let one : s.call ≡ 1 = request_one s s.call kind first last officer is in
-    taken_accepted r s (Request kind first last officer) out _ k is z e refl
+    taken_accepted r s (Request kind low high officer) out _ k is z e refl
     (rw (eq-eqb s.call 1 one) (ap (λ (b : Board). b.last) e))
     (sym (eq-eqb s.call 1 one))
 
 pub taken_other : (r : Register) (s : Seven) (c : Call) (out : Register) → Kept r → named s ≡ Some c
     → with_room (board_of r) s ≡ 0
     → board_of out ≡ effect (board_of r) (Some c)
-    → ((kind : Kind) (first last officer : ℕ) → c ≡ Request kind first last officer → ⊥)
+    → ((kind : Kind) (first last officer : ℕ) → c ≡ Request kind low high officer → ⊥)
     → TakePost r s (stamped s.day s.time out) (Ok None)
 taken_other r s c out k is z e other =
     let no : s.call ≡ 1 → ⊥ = λ q. other _ _ _ _ (some_same c _ (sym is ∙ one_request s q)) in

@@ -30,7 +30,7 @@ use Rattle.rules.specs.Refusals.{conditions, answer}
 use Rattle.rules.specs.Journal.{journal_line}
 use Rattle.rules.specs.Answer.{answer_no, number_no}
 use Rattle.rules.specs.Step.{Made, Answered, after, trace, final, Kept}
-use Rattle.rules.specs.Reckoning.{start, reckoned}
+use Rattle.rules.specs.Reckoning.{at_start, reckoned}
 use Rattle.rules.specs.Claim.{Safe}
 use Rattle.rules.proofs.Answers.{NoneHolds, Refused, accepted_none, none_accepted, refused_lowest, lowest_refused}
 use Rattle.rules.proofs.Answers.{refused_same, refused_none, short_line, long_line}
@@ -111,9 +111,9 @@ ran_trace {text} (ran_call {ms = ms} {cs = cs} κs a out x h p) =
 -- THEOREM, demand 3: after every list of calls on a board opened from any plan text, what is reckoned from the calls
 -- and their answers is safe
 pub ran_safe : {text : List ℕ} {ms : List Made} {cs : List Answered} {r : Register} → Ran text ms cs r
-    → Safe (open_board text).gates (reckoned (open_board text).gates start cs)
+    → Safe (open_board text).gates (reckoned (open_board text).gates at_start cs)
 ran_safe {text} {ms} h =
-    subst (λ (l : List Answered). Safe (open_board text).gates (reckoned (open_board text).gates start l))
+    subst (λ (l : List Answered). Safe (open_board text).gates (reckoned (open_board text).gates at_start l))
     (sym (ran_trace h)) (demand_3 text ms)
 
 -- ---- order 6, bookings
@@ -126,7 +126,7 @@ ran_booked {text} {ms} h = subst Booked (sym (ran_board h)) (list_booked text ms
 
 -- a gate that an authority in force needs, by what is reckoned from the run's calls and answers
 abbrev pub Needed : List ℕ → List Answered → ℕ → ℕ → Type 0
-Needed text cs n g = NeededBy (open_board text).gates (reckoned (open_board text).gates start cs).authority n g
+Needed text cs n g = NeededBy (open_board text).gates (reckoned (open_board text).gates at_start cs).authority n g
 
 needed_trace : {text : List ℕ} {ms : List Made} {cs : List Answered} {r : Register} {n g : ℕ} → Ran text ms cs r
     → Needed text cs n g
@@ -148,9 +148,10 @@ ran_protected {text} {ms} h n g k =
 -- that its last AGREE or JOIN names, 0 for none, read off the calls of the run and their answers
 pub ran_agreements : {text : List ℕ} {ms : List Made} {cs : List Answered} {r : Register} → Ran text ms cs r
     → (o : Authority) → Member o (board_of r).authorities
-    → Recorded (reckoned (open_board text).gates start cs).authority o
+    → Recorded (reckoned (open_board text).gates at_start cs).authority o
 ran_agreements {text} {ms} h o m =
-    subst (λ (l : List Answered). Recorded (reckoned (open_board text).gates start l).authority o) (sym (ran_trace h))
+    subst (λ (l : List Answered). Recorded (reckoned (open_board text).gates at_start l).authority o)
+    (sym (ran_trace h))
     (list_agreements text ms o (subst (λ (b : Board). Member o b.authorities) (ran_board h) m))
 
 -- THEOREM: of two such registers nothing is left free: those that are equal by 01 and 02 stand for one board

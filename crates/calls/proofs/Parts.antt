@@ -15,7 +15,7 @@ use Rattle.rules.specs.Refusals.{answer}
 use Rattle.rules.specs.Journal.{journal_line}
 use Rattle.rules.specs.Plan.{open_board}
 use Rattle.rules.specs.Step.{Made, Answered, after, allotted, trace, final}
-use Rattle.rules.specs.Reckoning.{start, reckoned}
+use Rattle.rules.specs.Reckoning.{at_start, reckoned}
 use Rattle.rules.specs.Claim.{Safe}
 use Rattle.rules.proofs.Safety.{demand_3}
 use Rattle.std.specs.Prelude.{Option, Some, None}
@@ -163,5 +163,5 @@ run_trace b (c ∷ calls) = ap (λ (l : List ℕ). line_on b c ++ l) (run_trace 
 -- answers, which are those that the journal shows, is safe
 pub run_safe : (plan text : List ℕ) (n : ℕ)
     → Safe (open_board plan).gates
-    (reckoned (open_board plan).gates start (trace (open_board plan) (map made (calls_in n text))))
+    (reckoned (open_board plan).gates at_start (trace (open_board plan) (map made (calls_in n text))))
 run_safe plan text n = demand_3 plan (map made (calls_in n text))

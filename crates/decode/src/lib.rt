@@ -76,7 +76,7 @@ fn form_of(call: u16) -> Form
             a: Field::Authority,
             b: Field::Day,
             c: Field::Time,
-            d: Field::Length,
+            d: Field::Minutes,
         },
         15 => Form {
             a: Field::Authority,
@@ -177,7 +177,7 @@ fn name(s: Seven) -> Option<Call>
             authority: AuthorityNo(s.a),
             day: s.b,
             time: s.c,
-            length: s.d,
+            minutes: s.d,
         }),
         15 => Some(Call::Join {
             twa: AuthorityNo(s.a),

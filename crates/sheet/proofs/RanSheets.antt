@@ -19,7 +19,7 @@ use Rattle.rules.specs.Answer.{answer_no, lines_no}
 use Rattle.rules.specs.Board.{Board, board_of, authority_no}
 use Rattle.rules.specs.Plan.{open_board}
 use Rattle.rules.specs.Step.{Made, Answered, final}
-use Rattle.rules.specs.Reckoning.{start, agreement, reckoned}
+use Rattle.rules.specs.Reckoning.{at_start, agreement, reckoned}
 use Rattle.rules.specs.Sheet.{now_of, authority_cells, sheet_lines, sheet}
 use Rattle.rules.proofs.Sheets.{first-last, Ascend, lines_ascend}
 use Rattle.board.proofs.Ran.{Ran, ran_kept, ran_ascending, ran_board, ran_trace, ran_agreements}
@@ -35,11 +35,11 @@ sheet_asked κs a h = ran_kept h
 -- and their answers
 pub ran_first-last : {text : List ℕ} {ms : List Made} {cs : List Answered} {r : Register} → Ran text ms cs r
     → (o : Authority) → Member o (board_of r).authorities
-    → let x = (reckoned (open_board text).gates start cs).authority (authority_no o) in
+    → let x = (reckoned (open_board text).gates at_start cs).authority (authority_no o) in
     (o.kind ≡ x.kind) × (least o.limits ≡ x.first) × (greatest o.limits ≡ x.last)
 ran_first-last {text} {ms} h o m =
     subst
-    (λ (l : List Answered). let x = (reckoned (open_board text).gates start l).authority (authority_no o) in
+    (λ (l : List Answered). let x = (reckoned (open_board text).gates at_start l).authority (authority_no o) in
     (o.kind ≡ x.kind) × (least o.limits ≡ x.first) × (greatest o.limits ≡ x.last))
     (sym (ran_trace h)) (first-last text ms o (subst (λ (b : Board). Member o b.authorities) (ran_board h) m))
 
@@ -53,7 +53,7 @@ ran_lines_ascend {r = r} h = lines_ascend (board_of r) (ran_ascending h).0
 pub ran_agreement_shown : {text : List ℕ} {ms : List Made} {cs : List Answered} {r : Register} → Ran text ms cs r
     → (o : Authority) → Member o (board_of r).authorities
     → get_or (authority_cells (now_of (board_of r)) o) 8 Empty
-    ≡ Number (agreement ((reckoned (open_board text).gates start cs).authority (authority_no o)))
+    ≡ Number (agreement ((reckoned (open_board text).gates at_start cs).authority (authority_no o)))
 unfolding authority_cells
 ran_agreement_shown h o m = ap Number (ran_agreements h o m).number
 

@@ -12,7 +12,7 @@ use rules::{Authority, AuthorityNo, Kind, Train, TrainNo};
 // The train with that number.
 // Kept: loops with a label, as document 01 names the form of these searches.
 pub fn find_train(trains: &[Train], n: TrainNo) -> Option<Train>
-    ensures { result ≡ find (is_train n.0) trains.now }
+    ensures { result ≡ find (is_train n) trains.now }
 {
     let mut found = None;
     'search: for t in trains {
@@ -35,7 +35,7 @@ pub fn is_any_touching(trains: &[Train], set: u64) -> bool
 // A train is in the way of a CONTINUE from old to a (refusal 12).
 #[tactic(auto, using(crate::proofs::TrainLaws::in_the_way_by_ends))]
 pub fn is_any_in_the_way(trains: &[Train], old: AuthorityNo, a: Authority) -> bool
-    ensures { result ≡ any (in_the_way old.0 a) trains.now }
+    ensures { result ≡ any (in_the_way old a) trains.now }
 {
     is_any_end(trains, |t, end| {
         sets::has(a.limits, end)
@@ -46,7 +46,7 @@ pub fn is_any_in_the_way(trains: &[Train], old: AuthorityNo, a: Authority) -> bo
 // Another train than n touches the portion.
 #[tactic(auto, using(crate::proofs::TrainLaws::another_by_ends))]
 pub fn is_another_at(trains: &[Train], n: TrainNo, p: u16) -> bool
-    ensures { result ≡ any (is_other_at n.0 p) trains.now }
+    ensures { result ≡ any (is_other_at n p) trains.now }
 {
     is_any_end(trains, |t, end| t.number != n && p != 99 && end == p)
 }
