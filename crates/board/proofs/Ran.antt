@@ -125,10 +125,11 @@ pub ran_booked : {text : List ℕ} {ms : List Made} {cs : List Answered} {r : Re
 ran_booked {text} {ms} h = subst Booked (sym (ran_board h)) (list_booked text ms)
 
 -- a gate that an authority in force needs, by what is reckoned from the run's calls and answers
-abbrev pub Needed : List ℕ → List Answered → ℕ → ℕ → Type 0
+abbrev pub Needed : List ℕ → List Answered → ℕ → GateNo → Type 0
 Needed text cs n g = NeededBy (open_board text).gates (reckoned (open_board text).gates at_start cs).authority n g
 
-needed_trace : {text : List ℕ} {ms : List Made} {cs : List Answered} {r : Register} {n g : ℕ} → Ran text ms cs r
+needed_trace : {text : List ℕ} {ms : List Made} {cs : List Answered} {r : Register} {n : ℕ} {g : GateNo}
+    → Ran text ms cs r
     → Needed text cs n g
     → Needed text (trace (open_board text) ms) n g
 needed_trace {text} {n = n} {g = g} h k = subst (λ (l : List Answered). Needed text l n g) (ran_trace h) k
@@ -136,10 +137,10 @@ needed_trace {text} {n = n} {g = g} h k = subst (λ (l : List Answered). Needed 
 -- THEOREM: "Limits in force stay protected through both calls.": after every list of calls such a gate is blocked, and
 -- can be blocked
 pub ran_protected : {text : List ℕ} {ms : List Made} {cs : List Answered} {r : Register} → Ran text ms cs r
-    → (n g : ℕ) → Needed text cs n g
-    → (has g (board_of r).blocks ≡ true) × (can_be_blocked (board_of r) g ≡ true)
+    → (n : ℕ) (g : GateNo) → Needed text cs n g
+    → (has g.0 (board_of r).blocks ≡ true) × (can_be_blocked (board_of r) g ≡ true)
 ran_protected {text} {ms} h n g k =
-    subst (λ (b : Board). (has g b.blocks ≡ true) × (can_be_blocked b g ≡ true)) (sym (ran_board h))
+    subst (λ (b : Board). (has g.0 b.blocks ≡ true) × (can_be_blocked b g ≡ true)) (sym (ran_board h))
     (limits_protected text ms n g (needed_trace h k))
 
 -- ---- order 7, agreements
@@ -214,7 +215,7 @@ module _ (κs : Lfts 1) (a : Dens κs call-kinds.ps) (out : Called)
 
   -- order 6: a needed gate that is blocked can't be restored: no BOOK IN that would restore it is accepted
   pub not_restored : {text : List ℕ} {ms : List Made} {cs : List Answered} → Ran text ms cs a.0
-      → (n : ℕ) (g : GateNo) → Needed text cs n g.0
+      → (n : ℕ) (g : GateNo) → Needed text cs n g
       → (paper new : PaperNo) → named s ≡ Some (BookIn g paper true new) → (answer_no out.answer) ≡ 0 → ⊥
   not_restored {text} {ms} h n g k paper new is e =
       needed_not_restored text ms n g (needed_trace h k) s room paper new is
@@ -223,14 +224,14 @@ module _ (κs : Lfts 1) (a : Dens κs call-kinds.ps) (out : Called)
   -- orders 1 and 7: an authority that the call did not end is held after it, in force if it was, with the term that it
   -- had and, in force or unless the call recorded another with it, with the agreement that it had recorded
   pub authority_kept : Kept a.0 → (o : Authority) → Member o b.authorities
-      → ended_by (authority_no o) (answered s (answer_no out.answer)) ≡ false
-      → StaysIn (agreed_by (authority_no o) (answered s (answer_no out.answer))) o (board_of out.register).authorities
+      → ended_by o.number (answered s (answer_no out.answer)) ≡ false
+      → StaysIn (agreed_by o.number (answered s (answer_no out.answer))) o (board_of out.register).authorities
   unfolding trace final
   authority_kept k o m e =
-      let told : ended_by (authority_no o) (answered s (answer b s room)) ≡ false =
-      subst (λ (n : ℕ). ended_by (authority_no o) (answered s n) ≡ false) p.answered e in
-      let anew : Bool = agreed_by (authority_no o) (answered s (answer b s room)) in
+      let told : ended_by o.number (answered s (answer b s room)) ≡ false =
+      subst (λ (n : ℕ). ended_by o.number (answered s n) ≡ false) p.answered e in
+      let anew : Bool = agreed_by o.number (answered s (answer b s room)) in
       subst₂ (λ (t : Bool) (c : Board). StaysIn t o c.authorities)
-      (or-false anew ∙ ap (λ (n : ℕ). agreed_by (authority_no o) (answered s n)) (sym p.answered)) (sym p.board)
+      (or-false anew ∙ ap (λ (n : ℕ). agreed_by o.number (answered s n)) (sym p.answered)) (sym p.board)
       (authority_stays (made s buffer ∷ []) b k.once o m
-      (or_from (ended_by (authority_no o) (answered s (answer b s room))) false told refl))
+      (or_from (ended_by o.number (answered s (answer b s room))) false told refl))

@@ -35,7 +35,7 @@ line_on_lem : (b : Board) (c : Seven) → Once b → SmallCall c → length (lin
 unfolding allotted
 line_on_lem b c o (p, (q, (r, (s, (t, (u, (v, w))))))) =
     let few : allotted b c 55 ≤ 10000 =
-    cond_both (eqb (answer b c 55) 0 && eqb c.call 1) (suc b.last) 0 (λ n. n ≤ 10000) (λ e. omega (arith, o.last))
+    cond_both (eqb (answer b c 55) 0 && eqb c.call 1) (suc b.last.0) 0 (λ n. n ≤ 10000) (λ e. omega (arith, o.last))
     (λ e. omega arith) in
     line_55 c (answer b c 55) (allotted b c 55)
     (p, (q, (r, (s, (t, (u, (v, (omega (arith, answer_most b c 55), (omega arith, w)))))))))

@@ -20,8 +20,8 @@ has_place : (b : Board) → full b ≡ false → HasPlace b
 unfolding full
 has_place b h =
     let few : leb 32 (length b.authorities) ≡ false = search (told, h) in
-    let low : leb 9999 b.last ≡ false = search (told, h) in
-    record { place = leb-false 32 (length b.authorities) few; number = leb-false 9999 b.last low }
+    let numbers-left : leb 9999 b.last.0 ≡ false = search (told, h) in
+    record { place = leb-false 32 (length b.authorities) few; number = leb-false 9999 b.last.0 numbers-left }
 
 pub room_for : (b : Board) (s : Seven) (c : Call) → lowest (own b s (Some c)) ≡ 0 → RoomFor b c
 unfolding own no_room

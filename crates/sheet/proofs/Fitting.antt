@@ -58,18 +58,18 @@ pick_in true x y h l = h
 pick_in false x y h l = l
 
 -- the minutes in hand of a term that starts within the days, from their length and from what is left of them
-pub minutes_none : (now : ℕ) (a : Authority) → a.length ≡ 0
+pub minutes_none : (now : ℕ) (a : Authority) → a.minutes ≡ 0
     → (Empty ≡ minutes_in_hand now a) × (cell_fits 9 Empty ≡ true)
 unfolding minutes_in_hand
-minutes_none now a e = (rw (eq-eqb a.length 0 e), empty_fits 9)
+minutes_none now a e = (rw (eq-eqb a.minutes 0 e), empty_fits 9)
 
-pub minutes_some : (now : ℕ) (a : Authority) (length : ℕ) (c : Cell) → (a.length ≡ 0 → ⊥) → length ≡ a.length
-    → c ≡ difference (a.start + length) now → a.start < 10000 * 1440 → a.length < 65536 → now < 10 ^ 8
+pub minutes_some : (now : ℕ) (a : Authority) (minutes : ℕ) (c : Cell) → (a.minutes ≡ 0 → ⊥) → minutes ≡ a.minutes
+    → c ≡ difference (a.start + minutes) now → a.start < 10000 * 1440 → a.minutes < 65536 → now < 10 ^ 8
     → (c ≡ minutes_in_hand now a) × (cell_fits 9 c ≡ true)
 unfolding minutes_in_hand
-minutes_some now a length c n m e s l h =
-    let d : c ≡ difference (a.start + a.length) now = e ∙ rw m in
-    (rw (ne_eqb a.length 0 n) d, rw d (difference_in (a.start + a.length) now (omega arith) h))
+minutes_some now a minutes c n m e s l h =
+    let d : c ≡ difference (a.start + a.minutes) now = e ∙ rw m in
+    (rw (ne_eqb a.minutes 0 n) d, rw d (difference_in (a.start + a.minutes) now (omega arith) h))
 
 -- the line of an authority: its cells are those of the definition, and each fits
 pub authority_line_lem : (now : ℕ) (a : Authority) (number kind first last officer stage site : ℕ) (minutes : Cell)
