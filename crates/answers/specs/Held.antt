@@ -1,6 +1,6 @@
 -- The refusals that GRANT, WITHDRAW, CLEAR, REOCCUPY, HAND OVER and FULFIL begin with: they name an authority at a
 -- stage, by its officer. Assumes nothing.
-use Rattle.std.specs.Prelude.{ℕ, Bool, true, false, cond, not, Result, Ok, Err}
+use Rattle.std.specs.Prelude.{ℕ, Bool, false, cond, not, Result, Ok, Err}
 use Rattle.rules.specs.declared.refusal.Refusal.{Refusal}
 use Rattle.rules.specs.declared.refusal.Refusal.TheVariants.{NotLive, Stage, Officer}
 use Rattle.rules.specs.declared.AuthorityNo.{AuthorityNo}

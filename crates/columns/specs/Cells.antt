@@ -1,6 +1,6 @@
 -- A cell of a page: a number, a number behind a minus sign, or nothing, right-justified in fixed columns; and a line of
 -- cells. Assumes nothing.
-use Rattle.std.specs.Prelude.{ℕ, ◌-◌, Bool, true, false, cond, not, ◌&&◌, List, [], ◌∷◌, ◌++◌, ◌≡◌, eqb, leb, ltb}
+use Rattle.std.specs.Prelude.{ℕ, ◌-◌, Bool, cond, not, List, [], ◌∷◌, ◌++◌, ◌≡◌, eqb, leb, ltb}
 use Rattle.std.specs.Prelude.{length, replicate}
 use Rattle.lists.specs.Search.{any}
 use Rattle.columns.specs.Column.{digits}

@@ -96,7 +96,15 @@ pub fn set_agreed(authorities: &mut Authorities, n: AuthorityNo, agreed: Authori
 pub fn set_term(authorities: &mut Authorities, n: AuthorityNo, start: u32, minutes: u16)
     ensures { authorities.new.items ≡ amended n (with_term start minutes) authorities.old.items }
 {
-    amend(authorities, n, |a| Authority { start, minutes, ..a });
+    amend(
+        authorities,
+        n,
+        |a| Authority {
+            start,
+            minutes,
+            ..a
+        },
+    );
 }
 
 // Stores the booking of the gate with that number, if the plan has such a gate.

@@ -37,7 +37,8 @@ any_by_ends Passes (t ∷ ts) r (inr (inr (head, rear, rest))) by test answers e
 
 -- the tests of a train at an end: it is in the way of a CONTINUE by that end, or is another at the portion by it
 abbrev end_in_the_way : AuthorityNo → Authority → Train → ℕ → Bool
-end_in_the_way old a t end = has end a.limits && (is_twa a.kind || not (eqb t.with.0 old.0) || not (has t.head a.limits))
+end_in_the_way old a t end =
+    has end a.limits && (is_twa a.kind || not (eqb t.with.0 old.0) || not (has t.head a.limits))
 
 abbrev end_of_another : TrainNo → ℕ → Train → ℕ → Bool
 end_of_another n p t end = not (is_train n t) && not (is_outside p) && eqb end p
