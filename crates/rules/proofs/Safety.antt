@@ -82,11 +82,11 @@ gates_stay b (Some (BookIn g paper certified new)) = refl
 
 -- ---- a list of calls
 
--- what is to be shown of a list of calls from a board and a reckoning: what is reckoned is safe, and the board after
--- the list follows it
-pub record Holds (gates : List Gate) (last : Board) (r : Reckoning) : Type 0 where
+-- what is to be shown of a list of calls from a board and a reckoning: what is reckoned is safe, and the board b
+-- after the list follows it
+pub record Holds (gates : List Gate) (b : Board) (r : Reckoning) : Type 0 where
   pub safe : Safe gates r
-  pub follows : Follows last r
+  pub follows : Follows b r
 
 list_step : (b : Board) (r : Reckoning) (m : Made) (ms : List Made)
     → ((b' : Board) (r' : Reckoning) → Follows b' r' → Safe b'.gates r'

@@ -40,9 +40,9 @@ held_ends : {requests : ℕ} (x : Reckoned) (a : Authority) → Held requests x 
     → (least a.limits ≡ x.first) × (greatest a.limits ≡ x.last)
 held_ends x a h = (
   least_is a.limits x.first (omega (arith, h.first, h.last)) (h.from x.first (omega (arith, h.first)))
-      (λ q below. ⊎_elim (λ e. absurd (omega (arith, h.into q e))) (λ e. e) (truth (has q a.limits))),
+      (λ q lower. ⊎_elim (λ e. absurd (omega (arith, h.into q e))) (λ e. e) (truth (has q a.limits))),
   greatest_is a.limits x.last h.last (h.from x.last (omega (arith, h.first)))
-      (λ q above low. ⊎_elim (λ e. absurd (omega (arith, h.into q e))) (λ e. e) (truth (has q a.limits))),
+      (λ q above most. ⊎_elim (λ e. absurd (omega (arith, h.into q e))) (λ e. e) (truth (has q a.limits))),
 )
 
 -- THEOREM: on a board opened from any plan text, after any list of calls, the least and the greatest portion of the

@@ -239,6 +239,6 @@ unfolding trace final after ended_by agreed_by
 authority_stays [] b o x m h = (x, m, as_it_was x)
 authority_stays (c ∷ ms) b o x m h =
     let later = any (ended_by x.number) (trace (after b c.seven c.room) ms) in
-    let first = eqb (answer b c.seven c.room) 0 && ends x.number (named c.seven) in
+    let here = eqb (answer b c.seven c.room) 0 && ends x.number (named c.seven) in
     list_step b o c ms x m (authority_stays ms) (eqb (answer b c.seven c.room) 0) refl (once_after b c.seven c.room o)
-    (or_no_l first later h) (or_no_r first later h)
+    (or_no_l here later h) (or_no_r here later h)

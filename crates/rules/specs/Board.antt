@@ -198,13 +198,13 @@ needs limits gate = has gate.to limits && not (has gate.from limits)
 
 -- with these in the places that calls change; portions and gates are the plan's
 abbrev pub changed : Board → List Booking → ℕ → ℕ → AuthorityNo → ℕ → List Authority → List Train → Board
-changed b bookings day time last blocks authorities trains = record {
+changed b bookings day time n blocks authorities trains = record {
   portions = b.portions;
   gates = b.gates;
   bookings = bookings;
   day = day;
   time = time;
-  last = last;
+  last = n;
   blocks = blocks;
   authorities = authorities;
   trains = trains;

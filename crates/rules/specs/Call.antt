@@ -98,7 +98,7 @@ pub record Entry : Type 0 where
   pub named : Seven → Option Call
 
 abbrev pub entry : Form → (Seven → Option Call) → Entry
-entry f by = record { form = f; named = by }
+entry f reading = record { form = f; named = reading }
 
 -- the calls in order: 1 to 13 of 01, 14 of 02's order 1, 15 of its order 4, 16 and 17 of its order 6
 unfoldable pub calls : List Entry
