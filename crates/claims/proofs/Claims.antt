@@ -31,7 +31,7 @@ use Rattle.rules.specs.Call.{named}
 use Rattle.rules.specs.Claim.{Safe}
 use Rattle.rules.specs.Journal.{journal_line}
 use Rattle.rules.specs.Plan.{is_plan, open_board}
-use Rattle.rules.specs.Reckoning.{Reckoning, start, agreement, reckoned}
+use Rattle.rules.specs.Reckoning.{Reckoning, at_start, agreement, reckoned}
 use Rattle.rules.specs.Refusals.{conditions, answer}
 use Rattle.rules.specs.Sheet.{now_of, authority_cells, sheet_lines, sheet}
 use Rattle.rules.specs.Step.{Made, Answered, Once, Kept, after, trace, final}
@@ -124,7 +124,7 @@ by_rules h P = subst₂ P (sym (ran_board h)) (sym (ran_trace h))
 
 -- what is reckoned from calls and their answers, and from nothing else, on a board opened from a text
 abbrev pub reckoned_from : List ℕ → List Answered → Reckoning
-reckoned_from plan cs = reckoned (open_board plan).gates start cs
+reckoned_from plan cs = reckoned (open_board plan).gates at_start cs
 
 -- a gate that an authority in force needs, by what is so reckoned
 abbrev pub Needed : List ℕ → List Answered → ℕ → ℕ → Type 0
@@ -210,8 +210,8 @@ module _ {plan : List ℕ} {ms : List Made} {ts : List Told} {r : Register} (h :
   ran_numbered = rw (ran_trace h) (ap (map (λ t. t.number)) (ran_told h) ∙ numbers_from_1 plan ms)
 
   -- and the last number that the register holds is how many REQUESTs were accepted
-  pub ran_last : (board_of r).last ≡ requests (answers_of ts)
-  ran_last = by_rules h (λ b cs. b.last ≡ requests cs) (last_is_count plan ms)
+  pub ran_last : (board_of r).last.0 ≡ requests (answers_of ts)
+  ran_last = by_rules h (λ b cs. b.last.0 ≡ requests cs) (last_is_count plan ms)
 
   -- ---- demand 3, one claim about the whole list of calls, whose reckoning reads the calls and their answers, and no
   -- register
