@@ -10,13 +10,13 @@ use borrow.Fn.Kinds.{Dens, slots, kepts, ended_of}
 use Rattle.rules.specs.declared.Register.{Register}
 use Rattle.rules.specs.Step.{Kept}
 use Rattle.calls.specs.Run.{RunPost}
-use Rattle.calls.specs.declared.piece.Ran.{Ran}
+use Rattle.calls.specs.declared.piece.AfterRun.{AfterRun}
 use Rattle.calls.proofs.piece.run.Kinds as run-kinds
 use Rattle.calls.proofs.piece.run.Reads as run-reads
 
 -- `run` was handed a register, a text and a buffer, returned out, and left the buffer as buffer'
-pub data Running : Register → List ℕ → List ℕ → Ran → List ℕ → Type 0 where
-  running : (κs : Lfts 2) (a : Dens κs run-kinds.ps) (out : Ran) (x : AtExit (ended_of 2 run-kinds.ps run-kinds.r) κs)
+pub data Running : Register → List ℕ → List ℕ → AfterRun → List ℕ → Type 0 where
+  running : (κs : Lfts 2) (a : Dens κs run-kinds.ps) (out : AfterRun) (x : AtExit (ended_of 2 run-kinds.ps run-kinds.r) κs)
       → run-reads.Post κs a out x
       → Running a.0 a.1.0.now a.1.1.0.now out x.1.1.0.now
 
@@ -26,7 +26,7 @@ RunAsks r = (κs : Lfts 2) (a : Dens κs run-kinds.ps) → a.0 ≡ r → run-rea
 
 -- ---- a use is what the contract says
 
-pub running_post : {before : Register} {text buffer : List ℕ} {out : Ran} {buffer' : List ℕ}
+pub running_post : {before : Register} {text buffer : List ℕ} {out : AfterRun} {buffer' : List ℕ}
     → Running before text buffer out buffer'
     → RunPost before text buffer out.register out.lines buffer'
 running_post (running κs a out x p) = p
@@ -36,7 +36,7 @@ run_asks r k κs a e = subst Kept (sym e) k
 
 -- ---- and whatever the contract allows is a use: nothing more is known of one
 
-pub post_running : {before : Register} {text buffer : List ℕ} {out : Ran} {buffer' : List ℕ}
+pub post_running : {before : Register} {text buffer : List ℕ} {out : AfterRun} {buffer' : List ℕ}
     → RunPost before text buffer out.register out.lines buffer'
     → Running before text buffer out buffer'
 post_running {before} {text} {buffer} {out} {buffer'} p =

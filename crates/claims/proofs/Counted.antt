@@ -10,6 +10,7 @@ use lib.ListN.{length}
 use borrow.Author.Tests.{eqb-true, eq-eqb}
 use Rattle.std.specs.Prelude.{Option, Some, None}
 use Rattle.std.specs.List.{filter}
+use Rattle.rules.specs.declared.AuthorityNo.{AuthorityNo}
 use Rattle.rules.specs.declared.kind.Kind.{Kind}
 use Rattle.rules.specs.declared.Seven.{Seven}
 use Rattle.rules.specs.declared.Call.{Call}
@@ -57,8 +58,8 @@ module _ (b : Board) (s : Seven) where
   unfolding effect named
   effect_last true e = rw (one_request s (eqb-true s.call 1 e)) refl
   effect_last false e =
-      other_last b (named s)
-      (λ kind p q officer is. true≢false (sym (eq-eqb s.call 1 (request_one s s.call kind p q officer is)) ∙ e))
+      ap (λ (n : AuthorityNo). n.0) (other_last b (named s)
+      (λ kind p q officer is. true≢false (sym (eq-eqb s.call 1 (request_one s s.call kind p q officer is)) ∙ e)))
 
   last_after : (room : ℕ)
       → (after b s room).last.0 ≡ cond (eqb (answer b s room) 0 && eqb s.call 1) (suc b.last.0) b.last.0

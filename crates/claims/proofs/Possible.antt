@@ -37,7 +37,7 @@ use Rattle.rules.proofs.Safety.{list_follows}
 use Rattle.rules.proofs.Terms.{starts_after, starts_opened}
 use Rattle.rules.specs.Sheet.{sheet_lines, sheet, is_short}
 use Rattle.board.proofs.BoardUses.{Opening, Calling, post_opening, post_calling}
-use Rattle.calls.specs.declared.piece.Ran.{Ran as AfterRun}
+use Rattle.calls.specs.declared.piece.AfterRun.{AfterRun}
 use Rattle.calls.specs.CallsIn.{calls_in}
 use Rattle.calls.specs.Run.{made, journal, run_of}
 use Rattle.calls.proofs.Parts.{final_append}
