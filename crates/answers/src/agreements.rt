@@ -4,14 +4,14 @@ ghost use Rattle.std.specs.Prelude.{◌≡◌};
 ghost use Rattle.rules.specs.Board.{board_of};
 ghost use Rattle.rules.specs.Refusals.{lowest, agree_refusals, join_refusals, not_at_distance};
 ghost use Rattle.rules.specs.Answer.{answer_no};
-ghost use Rattle.answers.specs.Agreement.{agreement_of, agreement_with, is_kind};
+ghost use Rattle.answers.specs.Agreement.{agreement_of, agreement_with, same_kind};
 
 use authorities::find;
 use rules::{Authority, AuthorityNo, Kind, Refusal, Register};
 
 // The authority is of that kind.
 fn is_kind(a: Authority, kind: Kind) -> bool
-    ensures { result ≡ is_kind kind a.kind }
+    ensures { result ≡ same_kind kind a.kind }
 {
     a.kind == kind
 }
@@ -25,7 +25,7 @@ fn decide_agreement(
     n: AuthorityNo,
     officer: u16,
 ) -> Result<(), Refusal>
-    ensures { result ≡ agreement_with x_kind x y_kind y n.0 officer }
+    ensures { result ≡ agreement_with x_kind x y_kind y n officer }
 {
     if !(is_kind(x, x_kind) && x.in_force && is_kind(y, y_kind) && !y.in_force) {
         return Err(Refusal::Stage);
@@ -49,7 +49,7 @@ fn answer_agreement(
     m_kind: Kind,
     officer: u16,
 ) -> Result<(), Refusal>
-    ensures { result ≡ agreement_of (board_of register.now) n_kind n.0 m_kind m.0 officer }
+    ensures { result ≡ agreement_of (board_of register.now) n_kind n m_kind m officer }
 {
     let x = find(&register.authorities, n).ok_or(Refusal::NotLive)?;
     let y = find(&register.authorities, m).ok_or(Refusal::NotLive)?;
@@ -62,7 +62,7 @@ pub fn answer_agree(
     twa: AuthorityNo,
     officer: u16,
 ) -> Result<(), Refusal>
-    ensures { answer_no result ≡ lowest (agree_refusals (board_of register.now) toa.0 twa.0 officer) }
+    ensures { answer_no result ≡ lowest (agree_refusals (board_of register.now) toa twa officer) }
 {
     answer_agreement(register, toa, Kind::Toa, twa, Kind::Twa, officer)
 }
@@ -83,7 +83,7 @@ pub fn answer_join(
     officer: u16,
     distance: u16,
 ) -> Result<(), Refusal>
-    ensures { answer_no result ≡ lowest (join_refusals (board_of register.now) twa.0 toa.0 officer distance) }
+    ensures { answer_no result ≡ lowest (join_refusals (board_of register.now) twa toa officer distance) }
 {
     answer_agreement(register, twa, Kind::Twa, toa, Kind::Toa, officer)?;
     if is_not_at_distance(distance) {

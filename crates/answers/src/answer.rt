@@ -44,7 +44,7 @@ fn held(
     stage: Stage,
     officer: u16,
 ) -> Result<Authority, Refusal>
-    ensures { result ≡ held_by (board_of register.now) n.0 stage officer }
+    ensures { result ≡ held_by (board_of register.now) n stage officer }
 {
     let a = find(&register.authorities, n).ok_or(Refusal::NotLive)?;
     if is_not_at_stage(a, stage) {
@@ -66,14 +66,14 @@ fn answer_request(register: &Register) -> Result<(), Refusal>
 }
 
 fn answer_withdraw(register: &Register, n: AuthorityNo, officer: u16) -> Result<(), Refusal>
-    ensures { answer_no result ≡ lowest (withdraw_refusals (board_of register.now) n.0 officer) }
+    ensures { answer_no result ≡ lowest (withdraw_refusals (board_of register.now) n officer) }
 {
     held(register, n, Stage::Pending, officer)?;
     Ok(())
 }
 
 fn answer_block(register: &Register, g: GateNo) -> Result<(), Refusal>
-    ensures { answer_no result ≡ lowest (block_refusals (board_of register.now) g.0) }
+    ensures { answer_no result ≡ lowest (block_refusals (board_of register.now) g) }
 {
     if sets::has(register.blocks, g.0) {
         return Err(Refusal::AlreadySo);
@@ -85,7 +85,7 @@ fn answer_block(register: &Register, g: GateNo) -> Result<(), Refusal>
 }
 
 fn answer_unblock(register: &Register, g: GateNo) -> Result<(), Refusal>
-    ensures { answer_no result ≡ lowest (unblock_refusals (board_of register.now) g.0) }
+    ensures { answer_no result ≡ lowest (unblock_refusals (board_of register.now) g) }
 {
     if !sets::has(register.blocks, g.0) {
         return Err(Refusal::AlreadySo);
@@ -98,7 +98,7 @@ fn answer_unblock(register: &Register, g: GateNo) -> Result<(), Refusal>
 }
 
 fn answer_grant(register: &Register, s: Seven, n: AuthorityNo, officer: u16) -> Result<(), Refusal>
-    ensures { answer_no result ≡ lowest (grant_refusals (board_of register.now) s n.0 officer) }
+    ensures { answer_no result ≡ lowest (grant_refusals (board_of register.now) s n officer) }
 {
     let a = held(register, n, Stage::Pending, officer)?;
     if is_unprotected(register, a) {
@@ -117,7 +117,7 @@ fn answer_grant(register: &Register, s: Seven, n: AuthorityNo, officer: u16) -> 
 }
 
 fn answer_clear(register: &Register, n: AuthorityNo, officer: u16) -> Result<(), Refusal>
-    ensures { answer_no result ≡ lowest (clear_refusals (board_of register.now) n.0 officer) }
+    ensures { answer_no result ≡ lowest (clear_refusals (board_of register.now) n officer) }
 {
     let a = held(register, n, Stage::InForce, officer)?;
     if !a.workers_on {
@@ -127,7 +127,7 @@ fn answer_clear(register: &Register, n: AuthorityNo, officer: u16) -> Result<(),
 }
 
 fn answer_reoccupy(register: &Register, n: AuthorityNo, officer: u16) -> Result<(), Refusal>
-    ensures { answer_no result ≡ lowest (reoccupy_refusals (board_of register.now) n.0 officer) }
+    ensures { answer_no result ≡ lowest (reoccupy_refusals (board_of register.now) n officer) }
 {
     let a = held(register, n, Stage::InForce, officer)?;
     if a.workers_on {
@@ -140,7 +140,7 @@ fn answer_reoccupy(register: &Register, n: AuthorityNo, officer: u16) -> Result<
 }
 
 fn answer_hand_over(register: &Register, n: AuthorityNo, out: u16, into: u16) -> Result<(), Refusal>
-    ensures { answer_no result ≡ lowest (hand_over_refusals (board_of register.now) n.0 out into) }
+    ensures { answer_no result ≡ lowest (hand_over_refusals (board_of register.now) n out into) }
 {
     held(register, n, Stage::Either, out)?;
     if out == into {
@@ -155,7 +155,7 @@ fn answer_fulfil(
     officer: u16,
     assurances: u16,
 ) -> Result<(), Refusal>
-    ensures { answer_no result ≡ lowest (fulfil_refusals (board_of register.now) n.0 officer assurances) }
+    ensures { answer_no result ≡ lowest (fulfil_refusals (board_of register.now) n officer assurances) }
 {
     let a = held(register, n, Stage::InForce, officer)?;
     if a.workers_on {
@@ -180,7 +180,7 @@ fn decide_continue(
     officer_new: u16,
 ) -> Result<(), Refusal>
     ensures { answer_no result
-        ≡ lowest (of_continue (board_of register.now) s old.0 x y officer_old officer_new) }
+        ≡ lowest (of_continue (board_of register.now) s old x y officer_old officer_new) }
 {
     if !x.in_force || y.in_force {
         return Err(Refusal::Stage);
@@ -212,7 +212,7 @@ fn answer_continue(
     officer_new: u16,
 ) -> Result<(), Refusal>
     ensures { answer_no result
-        ≡ lowest (continue_refusals (board_of register.now) s old.0 new.0 officer_old officer_new) }
+        ≡ lowest (continue_refusals (board_of register.now) s old new officer_old officer_new) }
 {
     let x = find(&register.authorities, old).ok_or(Refusal::NotLive)?;
     let y = find(&register.authorities, new).ok_or(Refusal::NotLive)?;

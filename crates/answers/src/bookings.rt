@@ -9,7 +9,7 @@ use rules::{GateNo, PaperNo, Refusal, Register};
 
 #[tactic(auto, unfolding(rules::specs::Board::board_of, rules::specs::Board::is_out, rules::specs::Refusals::lowest))]
 pub fn answer_book_out(register: &Register, g: GateNo) -> Result<(), Refusal>
-    ensures { answer_no result ≡ lowest (book_out_refusals (board_of register.now) g.0) }
+    ensures { answer_no result ≡ lowest (book_out_refusals (board_of register.now) g) }
 {
     let booking = booking_at(&register.bookings, g);
     if booking.paper != PaperNo(0) {
@@ -30,7 +30,7 @@ pub fn answer_book_in(
     paper: PaperNo,
     certified: bool,
 ) -> Result<(), Refusal>
-    ensures { answer_no result ≡ lowest (book_in_refusals (board_of register.now) g.0 paper.0 certified) }
+    ensures { answer_no result ≡ lowest (book_in_refusals (board_of register.now) g paper certified) }
 {
     let booking = booking_at(&register.bookings, g);
     if booking.paper != paper {

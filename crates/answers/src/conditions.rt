@@ -11,7 +11,7 @@ use stamps::minute_of;
 pub fn is_full(register: &Register) -> bool
     ensures { result ≡ full (board_of register.now) }
 {
-    32 <= register.authorities.len() || 9999 <= register.last
+    32 <= register.authorities.len() || 9999 <= register.last.0
 }
 
 // 11: a gate that the authority needs isn't blocked.
@@ -38,7 +38,7 @@ pub fn is_outside_term(s: Seven, a: Authority) -> bool
     ensures { result ≡ outside_term s a }
 {
     let start = u64::from(a.start);
-    let end = start + u64::from(a.length);
+    let end = start + u64::from(a.minutes);
     let now = u64::from(minute_of(s.day, s.time));
-    a.kind == Kind::Lpa && (a.length == 0 || !(start <= now && now < end))
+    a.kind == Kind::Lpa && (a.minutes == 0 || !(start <= now && now < end))
 }

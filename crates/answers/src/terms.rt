@@ -18,13 +18,13 @@ pub fn answer_term(
     day: u16,
     time: u16,
 ) -> Result<(), Refusal>
-    ensures { answer_no result ≡ lowest (term_refusals (board_of register.now) s n.0 (minute_of day time)) }
+    ensures { answer_no result ≡ lowest (term_refusals (board_of register.now) s n (minute_of day time)) }
 {
     let a = find(&register.authorities, n).ok_or(Refusal::NotLive)?;
     if a.kind != Kind::Lpa || a.in_force {
         return Err(Refusal::Stage);
     }
-    if a.length != 0 {
+    if a.minutes != 0 {
         return Err(Refusal::AlreadySo);
     }
     if is_too_soon(s, minute_of(day, time)) {

@@ -7,6 +7,7 @@ use Rattle.std.specs.Prelude.{Option, Some, None, find, is_some}
 use Rattle.lists.specs.Search.{first}
 use Rattle.lists.proofs.Finds.{found_any, found_none, found_is}
 use Rattle.rules.specs.declared.kind.Kind.{Kind}
+use Rattle.rules.specs.declared.AuthorityNo.{AuthorityNo}
 use Rattle.rules.specs.declared.Authority.{Authority}
 use Rattle.rules.specs.Board.{Board, exclusive, is_twa, is_authority, no_authority, live, authority}
 use Rattle.rules.specs.Refusals.{not_live, is_e, is_w, any_e, any_w, the_w}
@@ -14,7 +15,7 @@ use Rattle.authorities.specs.Authorities.{FindsInForce}
 
 -- ---- the authority with a number, looked for
 
-module _ (b : Board) (n : ℕ) {f : Option Authority} (looked : f ≡ find (is_authority n) b.authorities) where
+module _ (b : Board) (n : AuthorityNo) {f : Option Authority} (looked : f ≡ find (is_authority n) b.authorities) where
   pub not_found : f ≡ None → not_live b n ≡ true
   unfolding not_live live
   not_found none = rw (found_none (is_authority n) b.authorities (sym looked ∙ none))

@@ -7,6 +7,7 @@ use mathlib.Core.List.{List, [], ◌∷◌}
 use borrow.Author.Tests.{eq-eqb, ne_eqb}
 use Rattle.std.specs.Prelude.{Option, Some, find}
 use Rattle.std.proofs.lemmas.Bool.{not_from_false, not_from_true}
+use Rattle.rules.specs.declared.AuthorityNo.{AuthorityNo}
 use Rattle.rules.specs.declared.Authority.{Authority}
 use Rattle.rules.specs.Board.{Board, is_authority, authority}
 use Rattle.rules.specs.Refusals.{Refusal, ◌when◌, lowest, not_live}
@@ -36,7 +37,7 @@ pub ruleset refusals = (holds, fails, none, not_from_false, not_from_true, of_ca
 -- ---- the authority with a number, looked for
 
 -- a call that names two is answered 5 where either is not live, else by its other refusals, of the two found
-pub both_live : (b : Board) (n m : ℕ) (rs : List Refusal) {f : Option Authority}
+pub both_live : (b : Board) (n m : AuthorityNo) (rs : List Refusal) {f : Option Authority}
     (looked : f ≡ find (is_authority n) b.authorities)
     {a : Authority} (is : f ≡ Some a) {g : Option Authority} (looked_too : g ≡ find (is_authority m) b.authorities)
     {c : Authority} {v : ℕ} → g ≡ Some c → (authority b n ≡ a → authority b m ≡ c → v ≡ lowest rs)

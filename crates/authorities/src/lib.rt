@@ -11,7 +11,7 @@ use rules::{Authority, AuthorityNo, Gate, Kind};
 
 // The authority with that number.
 pub fn find(authorities: &[Authority], n: AuthorityNo) -> Option<Authority>
-    ensures { result ≡ find (is_authority n.0) authorities.now }
+    ensures { result ≡ find (is_authority n) authorities.now }
 {
     authorities.iter().copied().find(|a| a.number == n)
 }
@@ -33,7 +33,7 @@ pub fn in_force_at<F: Fn(Kind) -> bool>(
 
 // Refusal 13 for a: another in force shares a portion, old not counted.
 pub fn is_overlapped(authorities: &[Authority], old: AuthorityNo, a: Authority) -> bool
-    ensures { result ≡ any (clashes old.0 a) authorities.now }
+    ensures { result ≡ any (clashes old a) authorities.now }
 {
     authorities.iter().any(|x| is_clashing(old, a, *x))
 }
@@ -52,7 +52,7 @@ pub fn is_still_needed(authorities: &[Authority], gate: Gate) -> bool
 // it is no TWA that has agreed the TOA x, and no TOA that has joined the TWA x.
 #[tactic(auto, unfolding(rules::specs::Refusals::clashes, rules::specs::Refusals::rests_on))]
 fn is_clashing(old: AuthorityNo, a: Authority, x: Authority) -> bool
-    ensures { result ≡ clashes old.0 a x }
+    ensures { result ≡ clashes old a x }
 {
     x.in_force
         && x.number != a.number

@@ -170,7 +170,7 @@ stamped day time r = record {
 sizes_stay : (b : Board) (c : Call)
     → ((effect b (Some c)).portions ≡ b.portions) × (length (effect b (Some c)).bookings ≡ length b.bookings)
 unfolding effect
-sizes_stay b (Request kind first last officer) = (refl, refl)
+sizes_stay b (Request kind low high officer) = (refl, refl)
 sizes_stay b (Withdraw n officer) = (refl, refl)
 sizes_stay b (Agree toa twa officer) = (refl, refl)
 sizes_stay b (Block g) = (refl, refl)
@@ -183,7 +183,7 @@ sizes_stay b (Fulfil n officer assurances) = (refl, refl)
 sizes_stay b (Continue old new officer_old officer_new) = (refl, refl)
 sizes_stay b (Move t g n officer) = (refl, refl)
 sizes_stay b (Passed t) = (refl, refl)
-sizes_stay b (Term n day time length) = (refl, refl)
+sizes_stay b (Term n day time minutes) = (refl, refl)
 sizes_stay b (Join twa toa officer distance) = (refl, refl)
 sizes_stay b (BookOut g paper) = (refl, length-set b.bookings g.0 (booked_out paper))
 sizes_stay b (BookIn g paper certified new) = (refl, length-set b.bookings g.0 (booked_in paper certified new))
@@ -203,7 +203,7 @@ taken_accepted : (r : Register) (s : Seven) (c : Call) (out : Register)
     (given : Result (Option AuthorityNo) Refused.Refusal) → Kept r
     → named s ≡ Some c → with_room (board_of r) s ≡ 0 → board_of out ≡ effect (board_of r) (Some c)
     → answer_no given ≡ 0
-    → number_no given ≡ cond (eqb s.call 1) (suc (board_of r).last) 0 → is_numbered given ≡ eqb s.call 1
+    → number_no given ≡ cond (eqb s.call 1) (suc (board_of r).last.0) 0 → is_numbered given ≡ eqb s.call 1
     → TakePost r s (stamped s.day s.time out) given
 unfolding board_of
 taken_accepted r s c out given k is z e accepted number numbered =
@@ -231,7 +231,7 @@ taken_accepted r s c out given k is z e accepted number numbered =
     not_refused (Ok n) e refused = cc
     not_refused (Err refusal) e refused = positive refusal e
 
-    number_is : (b : Board) (s : Seven) {n : ℕ} → with_room b s ≡ 0 → n ≡ cond (eqb s.call 1) (suc b.last) 0
+    number_is : (b : Board) (s : Seven) {n : ℕ} → with_room b s ≡ 0 → n ≡ cond (eqb s.call 1) (suc b.last.0) 0
         → n ≡ allotted b s 55
     number_is b s z e = unfold allotted in e ∙ rw (eq-eqb (answer b s 55) 0 z)
 
@@ -240,7 +240,7 @@ taken_accepted r s c out given k is z e accepted number numbered =
 -- an entry that names another call than REQUEST
 abbrev OtherEntry : Entry → Type 0
 OtherEntry e =
-    (s : Seven) (kind : Kind) (first last officer : ℕ) → e.named s ≡ Some (Request kind first last officer) → ⊥
+    (s : Seven) (kind : Kind) (low high officer : ℕ) → e.named s ≡ Some (Request kind low high officer) → ⊥
 
 others : Each OtherEntry (drop 1 calls)
 unfolding calls
@@ -283,36 +283,36 @@ others = (
 )
 
 -- a call is a REQUEST where its number is 1, and in no other case
-pub request_one : (s : Seven) (n : ℕ) (kind : Kind) (first last officer : ℕ)
-    → (entry_of n).named s ≡ Some (Request kind first last officer) → n ≡ 1
+pub request_one : (s : Seven) (n : ℕ) (kind : Kind) (low high officer : ℕ)
+    → (entry_of n).named s ≡ Some (Request kind low high officer) → n ≡ 1
 unfolding entry_of calls
-request_one s zero kind first last officer e = cc
-request_one s (suc zero) kind first last officer e = refl
-request_one s (suc (suc n)) kind first last officer e =
-    ⊎_elim (λ l. absurd (each_at OtherEntry no_entry (drop 1 calls) others n l s kind first last officer e))
+request_one s zero kind low high officer e = cc
+request_one s (suc zero) kind low high officer e = refl
+request_one s (suc (suc n)) kind low high officer e =
+    ⊎_elim (λ l. absurd (each_at OtherEntry no_entry (drop 1 calls) others n l s kind low high officer e))
     (λ l. absurd (subst OtherEntry (sym (get_or-eq_default (drop 1 calls) no_entry l))
-    (λ s k f l o e. cc) s kind first last officer e))
+    (λ s k f l o e. cc) s kind low high officer e))
     (lt_or_le n 16)
 
 pub one_request : (s : Seven) → s.call ≡ 1 → named s ≡ Some (Request (kind_of s.a) s.b s.c s.d)
 unfolding named entry_of calls
 one_request s e = rw e
 
-pub taken_request : (r : Register) (s : Seven) (kind : Kind) (first last officer : ℕ) (out : Register) → Kept r
-    → named s ≡ Some (Request kind first last officer) → with_room (board_of r) s ≡ 0
-    → board_of out ≡ effect (board_of r) (Some (Request kind first last officer))
-    → TakePost r s (stamped s.day s.time out) (Ok (Some (record { 0 = out.last })))
+pub taken_request : (r : Register) (s : Seven) (kind : Kind) (low high officer : ℕ) (out : Register) → Kept r
+    → named s ≡ Some (Request kind low high officer) → with_room (board_of r) s ≡ 0
+    → board_of out ≡ effect (board_of r) (Some (Request kind low high officer))
+    → TakePost r s (stamped s.day s.time out) (Ok (Some out.last))
 unfolding board_of named effect
-taken_request r s kind first last officer out k is z e =
-    let one : s.call ≡ 1 = request_one s s.call kind first last officer is in
-    taken_accepted r s (Request kind first last officer) out _ k is z e refl
-    (rw (eq-eqb s.call 1 one) (ap (λ (b : Board). b.last) e))
+taken_request r s kind low high officer out k is z e =
+    let one : s.call ≡ 1 = request_one s s.call kind low high officer is in
+    taken_accepted r s (Request kind low high officer) out _ k is z e refl
+    (rw (eq-eqb s.call 1 one) (ap (λ (b : Board). b.last.0) e))
     (sym (eq-eqb s.call 1 one))
 
 pub taken_other : (r : Register) (s : Seven) (c : Call) (out : Register) → Kept r → named s ≡ Some c
     → with_room (board_of r) s ≡ 0
     → board_of out ≡ effect (board_of r) (Some c)
-    → ((kind : Kind) (first last officer : ℕ) → c ≡ Request kind first last officer → ⊥)
+    → ((kind : Kind) (low high officer : ℕ) → c ≡ Request kind low high officer → ⊥)
     → TakePost r s (stamped s.day s.time out) (Ok None)
 taken_other r s c out k is z e other =
     let no : s.call ≡ 1 → ⊥ = λ q. other _ _ _ _ (some_same c _ (sym is ∙ one_request s q)) in

@@ -9,7 +9,8 @@ use crate::taking::take;
 use arrayvec::ArrayVec;
 use plan::{Plan, read_plan};
 use rules::{
-    Answer, Booking, Called, Opened, Refusal, Register, Seven, allotted_number, answer_number,
+    Answer, AuthorityNo, Booking, Called, Opened, Refusal, Register, Seven, allotted_number,
+    answer_number,
 };
 
 // A freshly opened board: no gate of it is out.
@@ -24,7 +25,7 @@ fn fresh(plan: Plan) -> Register
         bookings,
         day: 0,
         time: 0,
-        last: 0,
+        last: AuthorityNo(0),
         blocks: 0,
         authorities: ArrayVec::new(),
         trains: ArrayVec::new(),

@@ -8,7 +8,7 @@ ghost use Rattle.board.specs.Taking.{Allowed, TakePost};
 use answers::answer_of;
 use decode::decode;
 use effects::effect_of;
-use rules::{Answer, AuthorityNo, Call, Refusal, Register, Seven};
+use rules::{Answer, Call, Refusal, Register, Seven};
 
 // 4: the stamp is before that of the last accepted call.
 #[tactic(auto, unfolding(rules::specs::Board::board_of, rules::specs::Refusals::early))]
@@ -41,7 +41,7 @@ pub fn take(register: &mut Register, s: Seven) -> Answer
     register.day = s.day;
     register.time = s.time;
     match call {
-        Call::Request { .. } => Ok(Some(AuthorityNo(register.last))),
+        Call::Request { .. } => Ok(Some(register.last)),
         _ => Ok(None),
     }
 }

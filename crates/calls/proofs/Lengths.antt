@@ -37,7 +37,7 @@ module _ (b : Board) (c : Seven) (o : Once b) where
   unfolding allotted
   line_small (p, (q, (r, (s, (t, (u, (v, w))))))) =
       let few : allotted b c 55 ≤ 10000 =
-      cond_both (eqb (answer b c 55) 0 && eqb c.call 1) (suc b.last) 0 (λ n. n ≤ 10000) (λ e. omega (arith, o.last))
+      cond_both (eqb (answer b c 55) 0 && eqb c.call 1) (suc b.last.0) 0 (λ n. n ≤ 10000) (λ e. omega (arith, o.last))
       (λ e. omega arith) in
       (p, (q, (r, (s, (t, (u, (v, (omega (arith, answer_most b c 55), (omega arith, w)))))))))
 

@@ -10,7 +10,7 @@ use borrow.Fn.Kinds.{Dens, slots, kepts, ended_of}
 use Rattle.rules.specs.declared.Register.{Register}
 use Rattle.rules.specs.Step.{Kept}
 use Rattle.calls.specs.Run.{RunPost}
-use Rattle.calls.specs.declared.piece.Ran.{Ran as AfterRun}
+use Rattle.calls.specs.declared.piece.AfterRun.{AfterRun}
 use Rattle.calls.proofs.piece.run.Kinds as run-kinds
 use Rattle.calls.proofs.piece.run.Reads as run-reads
 

@@ -5,8 +5,8 @@ use Rattle.calls.specs.CallLine.{line_in}
 
 -- the calls on the lines of a text, at most n: "it stops before a malformed call line"; a last line cut short is one
 abbrev pub unless_malformed : Option Seven → List Seven → List Seven
-unless_malformed (Some s) calls = s ∷ calls
-unless_malformed None calls = []
+unless_malformed (Some s) rest = s ∷ rest
+unless_malformed None rest = []
 
 unfoldable pub calls_in : ℕ → List ℕ → List Seven
 calls_in zero text = []

@@ -16,7 +16,7 @@ made s = record { seven = s; room = 55 }
 -- the journal of a list of calls: a line for each, each call on the board that the call before it returned
 unfoldable pub journal : Board → List Seven → List ℕ
 journal b [] = []
-journal b (s ∷ calls) = journal_line s (answer b s 55) (allotted b s 55) ++ journal (after b s 55) calls
+journal b (s ∷ rest) = journal_line s (answer b s 55) (allotted b s 55) ++ journal (after b s 55) rest
 
 -- a run: the board after it, its journal, how many calls it made, and whether it stopped before as many as it might
 -- have made
@@ -28,11 +28,11 @@ pub record Run : Type 0 where
 
 -- the run of at most n calls of a text
 abbrev pub run_over : ℕ → Board → List Seven → Run
-run_over n b calls = record {
-  board = final b (map made calls);
-  text = journal b calls;
-  lines = length calls;
-  stopped = not (eqb (length calls) n);
+run_over n b sevens = record {
+  board = final b (map made sevens);
+  text = journal b sevens;
+  lines = length sevens;
+  stopped = not (eqb (length sevens) n);
 }
 
 unfoldable pub run_of : ℕ → Board → List ℕ → Run

@@ -6,4 +6,4 @@ mod lines;
 mod piece;
 
 pub use lines::read_line;
-pub use piece::{Ran, run};
+pub use piece::{AfterRun, run};

@@ -9,7 +9,7 @@ use rules::Register;
 
 // The register after a run, and how many calls it made.
 #[derive(Clone, Drop)]
-pub struct Ran {
+pub struct AfterRun {
     pub register: Register,
     pub lines: usize,
 }
@@ -36,10 +36,10 @@ fn run_lines(register: &mut Register, text: &[u8], out: &mut [u8]) -> usize
 
 // Makes the calls of a text in order, up to a malformed line, and puts their journal lines to the front of out: as many
 // calls at most as out has room for. Later bytes stay.
-pub fn run(mut register: Register, text: &[u8], out: &mut [u8]) -> Ran
+pub fn run(mut register: Register, text: &[u8], out: &mut [u8]) -> AfterRun
     requires { Kept register }
     ensures { RunPost register text.now out.old result.register result.lines out.new }
 {
     let lines = run_lines(&mut register, text, out);
-    Ran { register, lines }
+    AfterRun { register, lines }
 }

@@ -17,6 +17,7 @@ use Rattle.lists.proofs.Search.{Member}
 use Rattle.sets.specs.Sets.{has, least, greatest}
 use Rattle.columns.specs.declared.cells.Cell.TheVariants.{Empty, Number}
 use Rattle.rules.specs.declared.Authority.{Authority}
+use Rattle.rules.specs.declared.AuthorityNo.{AuthorityNo}
 use Rattle.rules.specs.declared.Call.TheVariants.{BookIn}
 use Rattle.rules.specs.declared.Called.{Called}
 use Rattle.rules.specs.declared.GateNo.{GateNo}
@@ -31,7 +32,7 @@ use Rattle.rules.specs.Call.{named}
 use Rattle.rules.specs.Claim.{Safe}
 use Rattle.rules.specs.Journal.{journal_line}
 use Rattle.rules.specs.Plan.{is_plan, open_board}
-use Rattle.rules.specs.Reckoning.{Reckoning, start, agreement, reckoned}
+use Rattle.rules.specs.Reckoning.{Reckoning, at_start, agreement, reckoned}
 use Rattle.rules.specs.Refusals.{conditions, answer}
 use Rattle.rules.specs.Sheet.{now_of, authority_cells, sheet_lines, sheet}
 use Rattle.rules.specs.Step.{Made, Answered, Once, Kept, after, trace, final}
@@ -46,7 +47,7 @@ use Rattle.rules.proofs.Safety.{demand_3}
 use Rattle.rules.proofs.Sheets.{first-last, Ascend, lines_ascend}
 use Rattle.rules.proofs.Stays.{ended_by, agreed_by, StaysIn, authority_stays}
 use Rattle.board.proofs.BoardUses.{Opening, Calling, CallAsks, opening_post, calling_post, call_asks}
-use Rattle.calls.specs.declared.piece.Ran.{Ran as AfterRun}
+use Rattle.calls.specs.declared.piece.AfterRun.{AfterRun}
 use Rattle.calls.specs.CallsIn.{calls_in}
 use Rattle.calls.specs.Run.{made, journal, run_of}
 use Rattle.calls.proofs.Parts.{final_append}
@@ -124,10 +125,10 @@ by_rules h P = subst₂ P (sym (ran_board h)) (sym (ran_trace h))
 
 -- what is reckoned from calls and their answers, and from nothing else, on a board opened from a text
 abbrev pub reckoned_from : List ℕ → List Answered → Reckoning
-reckoned_from plan cs = reckoned (open_board plan).gates start cs
+reckoned_from plan cs = reckoned (open_board plan).gates at_start cs
 
 -- a gate that an authority in force needs, by what is so reckoned
-abbrev pub Needed : List ℕ → List Answered → ℕ → ℕ → Type 0
+abbrev pub Needed : List ℕ → List Answered → ℕ → GateNo → Type 0
 Needed plan cs n g = NeededBy (open_board plan).gates (reckoned_from plan cs).authority n g
 
 -- ---- demand 1: what is returned and written
@@ -210,8 +211,8 @@ module _ {plan : List ℕ} {ms : List Made} {ts : List Told} {r : Register} (h :
   ran_numbered = rw (ran_trace h) (ap (map (λ t. t.number)) (ran_told h) ∙ numbers_from_1 plan ms)
 
   -- and the last number that the register holds is how many REQUESTs were accepted
-  pub ran_last : (board_of r).last ≡ requests (answers_of ts)
-  ran_last = by_rules h (λ b cs. b.last ≡ requests cs) (last_is_count plan ms)
+  pub ran_last : (board_of r).last.0 ≡ requests (answers_of ts)
+  ran_last = by_rules h (λ b cs. b.last.0 ≡ requests cs) (last_is_count plan ms)
 
   -- ---- demand 3, one claim about the whole list of calls, whose reckoning reads the calls and their answers, and no
   -- register
@@ -225,11 +226,11 @@ module _ {plan : List ℕ} {ms : List Made} {ts : List Told} {r : Register} (h :
   -- had, and with the agreement that it had recorded, if it was in force or none of them recorded another with it
   pub authority_kept : (ms' : List Made) (ts' : List Told) {r' : Register} → Ran plan (ms ++ ms') (ts ++ ts') r'
       → (o : Authority) → Member o (board_of r).authorities
-      → any (ended_by (authority_no o)) (answers_of ts') ≡ false
-      → StaysIn (any (agreed_by (authority_no o)) (answers_of ts')) o (board_of r').authorities
+      → any (ended_by o.number) (answers_of ts') ≡ false
+      → StaysIn (any (agreed_by o.number) (answers_of ts')) o (board_of r').authorities
   authority_kept ms' ts' k o m e =
       let b : Board = final (open_board plan) ms in
-      let n : ℕ = authority_no o in
+      let n : AuthorityNo = o.number in
       let since : answers_of ts' ≡ trace b ms' = told_since (open_board plan) ms ms' ts ts' (ran_told h) (ran_told k) in
       subst₂ (λ (cs : List Answered) (c : Board). any (ended_by n) cs ≡ false → StaysIn (any (agreed_by n) cs) o
       c.authorities)
@@ -270,19 +271,19 @@ module _ {plan : List ℕ} {ms : List Made} {ts : List Told} {r : Register} (h :
 
   -- "Limits in force stay protected through both calls.": a gate that an authority in force needs is blocked, and can
   -- be blocked
-  pub ran_protected : (n g : ℕ) → Needed plan (answers_of ts) n g
-      → (has g (board_of r).blocks ≡ true) × (can_be_blocked (board_of r) g ≡ true)
+  pub ran_protected : (n : ℕ) (g : GateNo) → Needed plan (answers_of ts) n g
+      → (has g.0 (board_of r).blocks ≡ true) × (can_be_blocked (board_of r) g ≡ true)
   ran_protected n g =
       by_rules h
-      (λ b cs. Needed plan cs n g → (has g b.blocks ≡ true) × (can_be_blocked b g ≡ true))
+      (λ b cs. Needed plan cs n g → (has g.0 b.blocks ≡ true) × (can_be_blocked b g ≡ true))
       (limits_protected plan ms n g)
 
   -- and it can't be restored: no BOOK IN that would restore it is accepted
   pub not_restored : {s : Seven} {buffer : List ℕ} {called : Called} {buffer' : List ℕ}
-      → Calling r s buffer called buffer' → (n : ℕ) (g : GateNo) → Needed plan (answers_of ts) n g.0
+      → Calling r s buffer called buffer' → (n : ℕ) (g : GateNo) → Needed plan (answers_of ts) n g
       → (paper new : PaperNo) → named s ≡ Some (BookIn g paper true new) → answer_no called.answer ≡ 0 → ⊥
   not_restored {s} {buffer} c n g k paper new is e =
-      by_rules h (λ b cs. Needed plan cs n g.0 → answer b s (length buffer) ≡ 0 → ⊥)
+      by_rules h (λ b cs. Needed plan cs n g → answer b s (length buffer) ≡ 0 → ⊥)
       (λ needed. needed_not_restored plan ms n g needed s (length buffer) paper new is)
       k (sym (calling_post c).answered ∙ e)
 

@@ -10,6 +10,7 @@ use lib.ListN.{length}
 use borrow.Author.Tests.{eqb-true, eq-eqb}
 use Rattle.std.specs.Prelude.{Option, Some, None}
 use Rattle.std.specs.List.{filter}
+use Rattle.rules.specs.declared.AuthorityNo.{AuthorityNo}
 use Rattle.rules.specs.declared.kind.Kind.{Kind}
 use Rattle.rules.specs.declared.Seven.{Seven}
 use Rattle.rules.specs.declared.Call.{Call}
@@ -53,21 +54,21 @@ other_last b (Some (BookOut g paper)) h = refl
 other_last b (Some (BookIn g paper certified new)) h = refl
 
 module _ (b : Board) (s : Seven) where
-  effect_last : (z : Bool) → eqb s.call 1 ≡ z → (effect b (named s)).last ≡ cond z (suc b.last) b.last
+  effect_last : (z : Bool) → eqb s.call 1 ≡ z → (effect b (named s)).last.0 ≡ cond z (suc b.last.0) b.last.0
   unfolding effect named
   effect_last true e = rw (one_request s (eqb-true s.call 1 e)) refl
   effect_last false e =
-      other_last b (named s)
-      (λ kind p q officer is. true≢false (sym (eq-eqb s.call 1 (request_one s s.call kind p q officer is)) ∙ e))
+      ap (λ (n : AuthorityNo). n.0) (other_last b (named s)
+      (λ kind p q officer is. true≢false (sym (eq-eqb s.call 1 (request_one s s.call kind p q officer is)) ∙ e)))
 
   last_after : (room : ℕ)
-      → (after b s room).last ≡ cond (eqb (answer b s room) 0 && eqb s.call 1) (suc b.last) b.last
+      → (after b s room).last.0 ≡ cond (eqb (answer b s room) 0 && eqb s.call 1) (suc b.last.0) b.last.0
   unfolding after
   last_after room = go (eqb (answer b s room) 0)
     where
       go : (z : Bool)
-          → (cond z (with_stamp s.day s.time (effect b (named s))) b).last
-          ≡ cond (z && eqb s.call 1) (suc b.last) b.last
+          → (cond z (with_stamp s.day s.time (effect b (named s))) b).last.0
+          ≡ cond (z && eqb s.call 1) (suc b.last.0) b.last.0
       go true = effect_last (eqb s.call 1) refl
       go false = refl
 
@@ -78,7 +79,7 @@ abbrev answered_on : Board → Made → Answered
 answered_on b m = record { seven = m.seven; answer = answer b m.seven m.room }
 
 -- THEOREM: the numbers told of a list of calls are those due from the last number on
-tells_numbers : (b : Board) (ms : List Made) → map (λ t. t.number) (tells b ms) ≡ numbers_due b.last (trace b ms)
+tells_numbers : (b : Board) (ms : List Made) → map (λ t. t.number) (tells b ms) ≡ numbers_due b.last.0 (trace b ms)
 unfolding tells trace numbers_due allotted
 tells_numbers b [] = refl
 tells_numbers b (m ∷ ms) =
@@ -90,16 +91,16 @@ tells_numbers b (m ∷ ms) =
     numbers : List ℕ
     numbers = map (λ t. t.number) (tells (after b m.seven m.room) ms)
 
-    go : (z : Bool) (n : ℕ) → n ≡ cond z (suc b.last) b.last → numbers ≡ numbers_due n rest
-        → cond z (suc b.last) 0 ∷ numbers
-        ≡ elim z [ true ↦ suc b.last ∷ numbers_due (suc b.last) rest | false ↦ 0 ∷ numbers_due b.last rest ]
-    go true n l ih = ap (λ (ns : List ℕ). suc b.last ∷ ns) (ih ∙ ap (λ (k : ℕ). numbers_due k rest) l)
+    go : (z : Bool) (n : ℕ) → n ≡ cond z (suc b.last.0) b.last.0 → numbers ≡ numbers_due n rest
+        → cond z (suc b.last.0) 0 ∷ numbers
+        ≡ elim z [ true ↦ suc b.last.0 ∷ numbers_due (suc b.last.0) rest | false ↦ 0 ∷ numbers_due b.last.0 rest ]
+    go true n l ih = ap (λ (ns : List ℕ). suc b.last.0 ∷ ns) (ih ∙ ap (λ (k : ℕ). numbers_due k rest) l)
     go false n l ih = ap (λ (ns : List ℕ). 0 ∷ ns) (ih ∙ ap (λ (k : ℕ). numbers_due k rest) l)
 
 -- THEOREM: and the last number is further by as many as REQUESTs were accepted
-last_counted : (b : Board) (ms : List Made) → (final b ms).last ≡ b.last + requests (trace b ms)
+last_counted : (b : Board) (ms : List Made) → (final b ms).last.0 ≡ b.last.0 + requests (trace b ms)
 unfolding trace final
-last_counted b [] = sym (add-zero b.last)
+last_counted b [] = sym (add-zero b.last.0)
 last_counted b (m ∷ ms) =
     last_counted (after b m.seven m.room) ms
     ∙ go (is_request (answered_on b m)) (last_after b m.seven m.room)
@@ -107,14 +108,14 @@ last_counted b (m ∷ ms) =
     rest : List Answered
     rest = filter is_request (trace (after b m.seven m.room) ms)
 
-    go : (z : Bool) → (after b m.seven m.room).last ≡ cond z (suc b.last) b.last
-        → (after b m.seven m.room).last + length rest ≡ b.last + length (cond z (answered_on b m ∷ rest) rest)
+    go : (z : Bool) → (after b m.seven m.room).last.0 ≡ cond z (suc b.last.0) b.last.0
+        → (after b m.seven m.room).last.0 + length rest ≡ b.last.0 + length (cond z (answered_on b m ∷ rest) rest)
     go true l = omega arith
     go false l = omega arith
 
 -- ---- of a board opened from a plan
 
-open_last : (plan : List ℕ) → (open_board plan).last ≡ 0
+open_last : (plan : List ℕ) → (open_board plan).last.0 ≡ 0
 unfolding opened
 open_last plan = rw (fresh plan).is_opened
 
@@ -124,5 +125,5 @@ numbers_from_1 plan ms =
     tells_numbers (open_board plan) ms ∙ ap (λ (n : ℕ). numbers_due n (trace (open_board plan) ms)) (open_last plan)
 
 pub last_is_count : (plan : List ℕ) (ms : List Made)
-    → (final (open_board plan) ms).last ≡ requests (trace (open_board plan) ms)
+    → (final (open_board plan) ms).last.0 ≡ requests (trace (open_board plan) ms)
 last_is_count plan ms = omega (arith, last_counted (open_board plan) ms, open_last plan)

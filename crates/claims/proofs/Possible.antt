@@ -37,7 +37,7 @@ use Rattle.rules.proofs.Safety.{list_follows}
 use Rattle.rules.proofs.Terms.{starts_after, starts_opened}
 use Rattle.rules.specs.Sheet.{sheet_lines, sheet, is_short}
 use Rattle.board.proofs.BoardUses.{Opening, Calling, post_opening, post_calling}
-use Rattle.calls.specs.declared.piece.Ran.{Ran as AfterRun}
+use Rattle.calls.specs.declared.piece.AfterRun.{AfterRun}
 use Rattle.calls.specs.CallsIn.{calls_in}
 use Rattle.calls.specs.Run.{made, journal, run_of}
 use Rattle.calls.proofs.Parts.{final_append}
@@ -181,8 +181,8 @@ module _ (plan : List ℕ) (ms : List Made) (r : Register) (e : board_of r ≡ f
       let room : ℕ = length buffer in
       let a : ℕ = answer b s room in
       let request : Bool = eqb s.call 1 in
-      let given : Result (Option AuthorityNo) Refusal = answer_with a request (suc b.last) in
-      let g : Gives a request (suc b.last) given = gives a request (suc b.last) (answer_most b s room) in
+      let given : Result (Option AuthorityNo) Refusal = answer_with a request (suc b.last.0) in
+      let g : Gives a request (suc b.last.0) given = gives a request (suc b.last.0) (answer_most b s room) in
       let call : List Made = record { seven = s; room = room } ∷ [] in
       let n : Register = cond (eqb a 0) (register_of (after b s room)) r in
       let en : board_of n ≡ after b s room =

@@ -11,7 +11,7 @@ use Rattle.rules.specs.declared.Called.{Called}
 use Rattle.rules.specs.declared.Register.{Register}
 use Rattle.rules.specs.Step.{Made}
 use Rattle.board.proofs.BoardUses.{Opening, Calling}
-use Rattle.calls.specs.declared.piece.Ran.{Ran as AfterRun}
+use Rattle.calls.specs.declared.piece.AfterRun.{AfterRun}
 use Rattle.calls.specs.CallsIn.{calls_in}
 use Rattle.calls.specs.Run.{made}
 use Rattle.calls.proofs.RunUses.{Running}

@@ -8,7 +8,7 @@ use lib.ListN.{replicate}
 use Rattle.std.specs.Prelude.{Some, None}
 use Rattle.columns.specs.Text.{bytes}
 use Rattle.columns.specs.Column.{digits_in, digits, column, fits}
-use Rattle.columns.specs.Line.{line, all_fit, writable, with_line, fit_of, line_of}
+use Rattle.columns.specs.Line.{line, writable, with_line, fit_of, line_of}
 use Rattle.columns.specs.Reading.{same_text, value_from, is_column, read_column, first_column, row_of}
 use Rattle.columns.specs.declared.cells.Cell.TheVariants.{Empty, Minus}
 use Rattle.columns.specs.Cells.{difference, marks, cell, cell_fits, cell_in}

@@ -172,14 +172,14 @@ module _ (count most : ℕ) (ws s : List ℕ) where
       pub row_short : length rest < w → None ≡ numbers_in count most ws s
       row_short h = row_stop more (rw (← width) (first_short most w rest h))
 
-      module _ (column left : List ℕ) (parts : IsSplitAt rest w column left) where
-        read : first_column most (get_or ws k 0) rest ≡ read_column most column
+      module _ (part left : List ℕ) (parts : IsSplitAt rest w part left) where
+        read : first_column most (get_or ws k 0) rest ≡ read_column most part
         read = rw (← width, parts.1) (first_part most w rest parts.0)
 
-        pub row_bad : None ≡ read_column most column → None ≡ numbers_in count most ws s
+        pub row_bad : None ≡ read_column most part → None ≡ numbers_in count most ws s
         row_bad e = row_stop more (read ∙ sym e)
 
-        pub row_next : (n : ℕ) → Some n ≡ read_column most column → SoFar (k + 1) (set numbers k n) left
+        pub row_next : (n : ℕ) → Some n ≡ read_column most part → SoFar (k + 1) (set numbers k n) left
         row_next n e = rw (parts.2, width) (row_more n more (read ∙ sym e))
 
     row_end : (whole : Bool) → length ws ≤ k → same_text rest (10 ∷ []) ≡ whole

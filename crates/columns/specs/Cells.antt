@@ -1,6 +1,6 @@
 -- A cell of a page: a number, a number behind a minus sign, or nothing, right-justified in fixed columns; and a line of
 -- cells. Assumes nothing.
-use Rattle.std.specs.Prelude.{ℕ, ◌-◌, Bool, true, false, cond, not, ◌&&◌, List, [], ◌∷◌, ◌++◌, ◌≡◌, eqb, leb, ltb}
+use Rattle.std.specs.Prelude.{ℕ, ◌-◌, Bool, cond, not, List, [], ◌∷◌, ◌++◌, ◌≡◌, eqb, leb, ltb}
 use Rattle.std.specs.Prelude.{length, replicate}
 use Rattle.lists.specs.Search.{any}
 use Rattle.columns.specs.Column.{digits}
@@ -29,9 +29,9 @@ cell_fits w c = leb (length (marks c)) w
 
 -- what filling a lent text with a cell answers, and the text that it leaves: one that the cell does not fit stays as it
 -- was
-pub record Filled (before : List ℕ) (c : Cell) (after : List ℕ) (answer : Bool) : Type 0 where
-  pub answered : answer ≡ cell_fits (length before) c
-  pub bytes : after ≡ cond (cell_fits (length before) c) (cell (length before) c) before
+pub record Filled (text : List ℕ) (c : Cell) (text' : List ℕ) (given : Bool) : Type 0 where
+  pub answered : given ≡ cell_fits (length text) c
+  pub bytes : text' ≡ cond (cell_fits (length text) c) (cell (length text) c) text
 
 -- a line of cells, and that each fits
 abbrev pub cell_line : List ℕ → List Cell → List ℕ

@@ -22,6 +22,6 @@ fits w n = leb (length (digits n)) w
 
 -- what filling a lent text with a number answers, and the text that it leaves: one that the number does not fit stays
 -- as it was
-pub record ColumnFilled (before : List ℕ) (n : ℕ) (after : List ℕ) (answer : Bool) : Type 0 where
-  pub answered : answer ≡ fits (length before) n
-  pub bytes : after ≡ cond (fits (length before) n) (column (length before) n) before
+pub record ColumnFilled (text : List ℕ) (n : ℕ) (text' : List ℕ) (given : Bool) : Type 0 where
+  pub answered : given ≡ fits (length text) n
+  pub bytes : text' ≡ cond (fits (length text) n) (column (length text) n) text

@@ -31,6 +31,6 @@ unfoldable pub with_line : List ℕ → List ℕ → List ℕ → List ℕ
 with_line widths numbers buffer = line widths numbers ++ drop (length (line widths numbers)) buffer
 
 -- what writing a line answers, and the buffer that it leaves: one that cannot take the line stays as it was
-pub record Written (widths numbers before after : List ℕ) (answer : Bool) : Type 0 where
-  pub answered : answer ≡ writable (length before) widths numbers
-  pub bytes : after ≡ cond (writable (length before) widths numbers) (with_line widths numbers before) before
+pub record Written (widths numbers buffer buffer' : List ℕ) (given : Bool) : Type 0 where
+  pub answered : given ≡ writable (length buffer) widths numbers
+  pub bytes : buffer' ≡ cond (writable (length buffer) widths numbers) (with_line widths numbers buffer) buffer

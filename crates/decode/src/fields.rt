@@ -35,7 +35,7 @@ fn is_in_range(portions: u16, gates: usize, field: Field, s: Seven, value: u16) 
         Field::OfficerOrNone => value <= 999,
         Field::Day => is_day(value),
         Field::Time => is_time(value),
-        Field::Length => 1 <= value,
+        Field::Minutes => 1 <= value,
         Field::Distance => true,
         Field::Paper => (1 <= value) & (value <= 9999),
         Field::Certified => value <= 1,

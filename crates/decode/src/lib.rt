@@ -181,12 +181,12 @@ fn entry_of(s: Seven) -> Option<Entry>
             },
         }),
         14 => Some(Entry {
-            form: form(Field::Authority, Field::Day, Field::Time, Field::Length),
+            form: form(Field::Authority, Field::Day, Field::Time, Field::Minutes),
             call: Call::Term {
                 authority: AuthorityNo(s.a),
                 day: s.b,
                 time: s.c,
-                length: s.d,
+                minutes: s.d,
             },
         }),
         15 => Some(Entry {

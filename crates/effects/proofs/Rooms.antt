@@ -20,12 +20,12 @@ has_place : (b : Board) → full b ≡ false → HasPlace b
 unfolding full
 has_place b h =
     let few : leb 32 (length b.authorities) ≡ false = search (told, h) in
-    let low : leb 9999 b.last ≡ false = search (told, h) in
-    record { place = leb-false 32 (length b.authorities) few; number = leb-false 9999 b.last low }
+    let numbers-left : leb 9999 b.last.0 ≡ false = search (told, h) in
+    record { place = leb-false 32 (length b.authorities) few; number = leb-false 9999 b.last.0 numbers-left }
 
 pub room_for : (b : Board) (s : Seven) (c : Call) → lowest (own b s (Some c)) ≡ 0 → RoomFor b c
 unfolding own no_room
-room_for b s (Request kind first last officer) e = has_place b (off 9 _ _ (omega arith) e)
+room_for b s (Request kind low high officer) e = has_place b (off 9 _ _ (omega arith) e)
 room_for b s (Withdraw n officer) e = tt
 room_for b s (Agree toa twa officer) e = tt
 room_for b s (Block g) e = tt
@@ -39,7 +39,7 @@ room_for b s (Continue old new officer_old officer_new) e = tt
 room_for b s (Move t g n officer) e =
     record { room = λ out. leb-false 32 (length b.trains) (and_no_r _ _ (off 9 _ _ (omega arith) e) out) }
 room_for b s (Passed t) e = tt
-room_for b s (Term n day time length) e = tt
+room_for b s (Term n day time minutes) e = tt
 room_for b s (Join twa toa officer distance) e = tt
 room_for b s (BookOut g paper) e = tt
 room_for b s (BookIn g paper certified new) e = tt

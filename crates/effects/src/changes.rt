@@ -20,9 +20,9 @@ pub fn request(register: &mut Register, kind: Kind, first: u16, last: u16, offic
     requires { HasPlace (board_of register.old) }
     ensures { board_of register.new ≡ effect (board_of register.old) (Some (Call.Request kind first last officer)) }
 {
-    register.last += 1;
+    register.last.0 += 1;
     register.authorities.push(Authority {
-        number: AuthorityNo(register.last),
+        number: register.last,
         kind,
         limits: sets::run(first, last),
         officer,
@@ -30,13 +30,13 @@ pub fn request(register: &mut Register, kind: Kind, first: u16, last: u16, offic
         workers_on: false,
         agreed: AuthorityNo(0),
         start: 0,
-        length: 0,
+        minutes: 0,
     });
 }
 
 // Takes out the authority with that number; the order of the others stays.
 pub fn end_authority(authorities: &mut Authorities, n: AuthorityNo)
-    ensures { authorities.new.items ≡ ended n.0 authorities.old.items }
+    ensures { authorities.new.items ≡ ended n authorities.old.items }
 {
     authorities.retain(|a| a.number != n);
 }
@@ -44,14 +44,14 @@ pub fn end_authority(authorities: &mut Authorities, n: AuthorityNo)
 // Changes the authority with that number by f, in its place; the others stay.
 fn amend<F: Fn(Authority) -> Authority>(authorities: &mut Authorities, n: AuthorityNo, f: F)
     requires { F.IsAlwaysCallable f }
-    ensures { AmendedBy (F.post f) n.0 authorities.old.items authorities.new.items }
+    ensures { AmendedBy (F.post f) n authorities.old.items authorities.new.items }
 {
     change(authorities, |a| a.number == n, f);
 }
 
 // GRANT, and CONTINUE as new: in force, workers on.
 pub fn put_in_force(authorities: &mut Authorities, n: AuthorityNo)
-    ensures { authorities.new.items ≡ amended n.0 granted authorities.old.items }
+    ensures { authorities.new.items ≡ amended n granted authorities.old.items }
 {
     amend(
         authorities,
@@ -66,7 +66,7 @@ pub fn put_in_force(authorities: &mut Authorities, n: AuthorityNo)
 
 // CLEAR and REOCCUPY: the site, workers on or clear.
 pub fn set_site(authorities: &mut Authorities, n: AuthorityNo, on: bool)
-    ensures { authorities.new.items ≡ amended n.0 (with_site on) authorities.old.items }
+    ensures { authorities.new.items ≡ amended n (with_site on) authorities.old.items }
 {
     amend(
         authorities,
@@ -80,23 +80,31 @@ pub fn set_site(authorities: &mut Authorities, n: AuthorityNo, on: bool)
 
 // HAND OVER: the officer.
 pub fn set_officer(authorities: &mut Authorities, n: AuthorityNo, officer: u16)
-    ensures { authorities.new.items ≡ amended n.0 (with_officer officer) authorities.old.items }
+    ensures { authorities.new.items ≡ amended n (with_officer officer) authorities.old.items }
 {
     amend(authorities, n, |a| Authority { officer, ..a });
 }
 
 // AGREE, of the TWA, and JOIN, of the TOA: the authority whose officer agrees.
 pub fn set_agreed(authorities: &mut Authorities, n: AuthorityNo, agreed: AuthorityNo)
-    ensures { authorities.new.items ≡ amended n.0 (with_agreed agreed) authorities.old.items }
+    ensures { authorities.new.items ≡ amended n (with_agreed agreed) authorities.old.items }
 {
     amend(authorities, n, |a| Authority { agreed, ..a });
 }
 
-// TERM: the minute in which the term starts, and its length.
-pub fn set_term(authorities: &mut Authorities, n: AuthorityNo, start: u32, length: u16)
-    ensures { authorities.new.items ≡ amended n.0 (with_term start length) authorities.old.items }
+// TERM: the minute in which the term starts, and its length in minutes.
+pub fn set_term(authorities: &mut Authorities, n: AuthorityNo, start: u32, minutes: u16)
+    ensures { authorities.new.items ≡ amended n (with_term start minutes) authorities.old.items }
 {
-    amend(authorities, n, |a| Authority { start, length, ..a });
+    amend(
+        authorities,
+        n,
+        |a| Authority {
+            start,
+            minutes,
+            ..a
+        },
+    );
 }
 
 // Stores the booking of the gate with that number, if the plan has such a gate.

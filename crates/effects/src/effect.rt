@@ -15,7 +15,7 @@ use stamps::minute_of;
 
 // The limits of the authority with that number.
 fn limits_of(authorities: &[Authority], n: AuthorityNo) -> u64
-    ensures { result ≡ (first (is_authority n.0) no_authority authorities.now).limits }
+    ensures { result ≡ (first (is_authority n) no_authority authorities.now).limits }
 {
     authorities::find(authorities, n).unwrap_or_default().limits
 }
@@ -69,12 +69,12 @@ pub fn effect_of(register: &mut Register, c: Call)
             authority,
             day,
             time,
-            length,
+            minutes,
         } => set_term(
             &mut register.authorities,
             authority,
             minute_of(day, time),
-            length,
+            minutes,
         ),
         Call::Join { twa, toa, .. } => set_agreed(&mut register.authorities, toa, twa),
         Call::BookOut { gate, paper } => put_booking(

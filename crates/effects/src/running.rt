@@ -17,7 +17,7 @@ type Trains = ArrayVec<Train, 32>;
 
 // FULFIL: the trains with the authority are then with 0.
 pub fn free(trains: &mut Trains, n: AuthorityNo)
-    ensures { trains.new.items ≡ freed n.0 trains.old.items }
+    ensures { trains.new.items ≡ freed n trains.old.items }
 {
     change(
         trains,
@@ -42,7 +42,7 @@ fn authority_after(head: u16, new: AuthorityNo, limits: u64) -> AuthorityNo
 
 // CONTINUE: the trains with old are then with new if their head is in its limits, else with 0.
 pub fn continue_with(trains: &mut Trains, old: AuthorityNo, new: AuthorityNo, limits: u64)
-    ensures { trains.new.items ≡ continued old.0 new limits trains.old.items }
+    ensures { trains.new.items ≡ continued old new limits trains.old.items }
 {
     change(
         trains,
@@ -56,7 +56,7 @@ pub fn continue_with(trains: &mut Trains, old: AuthorityNo, new: AuthorityNo, li
 
 // Where the first train with a higher number stands, if there is one.
 fn first_above(trains: &[Train], n: TrainNo) -> Option<usize>
-    ensures { result ≡ position (is_above n.0) trains.now }
+    ensures { result ≡ position (is_above n) trains.now }
 {
     trains.iter().position(|t| n < t.number)
 }
@@ -74,7 +74,7 @@ fn insert_train(trains: &mut Trains, t: Train)
 pub fn go_through(trains: &mut Trains, gate: Gate, t: TrainNo, n: AuthorityNo)
     requires { is_outside gate.from ≡ true → length trains.old.items < 32 }
     ensures { trains.new.items ≡ cond (is_outside gate.from) (insert_by train_no (entered t gate.to n) trains.old.items)
-        (moved t.0 (with_head gate.to n) trains.old.items) }
+        (moved t (with_head gate.to n) trains.old.items) }
 {
     if gate.from == 99 {
         insert_train(
@@ -101,7 +101,7 @@ pub fn go_through(trains: &mut Trains, gate: Gate, t: TrainNo, n: AuthorityNo)
 
 // The head of the train with that number.
 fn head_of(trains: &[Train], t: TrainNo) -> u16
-    ensures { result ≡ (first (is_train t.0) no_train trains.now).head }
+    ensures { result ≡ (first (is_train t) no_train trains.now).head }
 {
     trains::find_train(trains, t).unwrap_or_default().head
 }
@@ -110,7 +110,7 @@ fn head_of(trains: &[Train], t: TrainNo) -> u16
 pub fn draw_in(trains: &mut Trains, t: TrainNo)
     ensures { let ts = trains.old.items in
         trains.new.items
-        ≡ cond (is_outside (first (is_train t.0) no_train ts).head) (gone t.0 ts) (moved t.0 with_rear_in ts) }
+        ≡ cond (is_outside (first (is_train t) no_train ts).head) (gone t ts) (moved t with_rear_in ts) }
 {
     if head_of(trains, t) == 99 {
         trains.retain(|x| x.number != t);

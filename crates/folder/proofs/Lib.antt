@@ -1,3 +1,4 @@
 mod PartRead
 mod WholeRuns
 mod FileRuns
+mod NumberLines

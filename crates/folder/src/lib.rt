@@ -18,5 +18,5 @@ pub use input::{Filled, read_file};
 pub use journal::print_journal;
 pub use open_board::Board;
 pub use opening::{Names, PLAN_SIZE};
-pub use output::{print, print_number, print_row};
+pub use output::print;
 pub use page::{print_page, print_sheet};

@@ -1,5 +1,5 @@
 // What is printed, written to a writer that stands for standard output.
-ghost use Rattle.std.specs.Prelude.{◌≤◌, [], ◌∷◌, OnOk, IfErr, replicate};
+ghost use Rattle.std.specs.Prelude.{[], ◌∷◌, OnOk, IfErr};
 ghost use Rattle.std.specs.Io.KnownBytes.{Appends};
 ghost use Rattle.columns.specs.Line.{line};
 ghost use Rattle.folder.specs.Outcomes.{IsFile};
@@ -18,23 +18,11 @@ pub fn print<W: Write>(output: &mut W, text: &[u8]) -> Result<(), Failure<'stati
     })
 }
 
-// Prints a row of up to four numbers, each in columns of 6, and a line feed.
-pub fn print_row<W: Write, const N: usize>(
-    output: &mut W,
-    numbers: [u16; N],
-) -> Result<(), Failure<'static>>
-    requires { N ≤ 4 }
-    ensures { OnOk result (Appends (W.contents output.old) (W.contents output.new)
-        (line (replicate N 6) numbers.entry)) }
-{
-    let mut line = [b'\n'; 4 * 6 + 1];
-    columns::write_line(&mut line, &[6; N], &numbers.map(u32::from));
-    print(output, &line[..6 * N + 1])
-}
-
 // Prints a number in 6 columns and a line feed.
 pub fn print_number<W: Write>(output: &mut W, n: u16) -> Result<(), Failure<'static>>
     ensures { OnOk result (Appends (W.contents output.old) (W.contents output.new) (line (6 ∷ []) (n ∷ []))) }
 {
-    print_row(output, [n])
+    let mut line = [b'\n'; 6 + 1];
+    columns::write_line(&mut line, &[6], &[u32::from(n)]);
+    print(output, &line)
 }

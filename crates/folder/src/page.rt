@@ -21,10 +21,8 @@ pub fn print_page<W: Write>(board: &Board, output: &mut W) -> Result<(), Failure
     ensures failed { IfErr result IsFile }
 {
     let mut page = [0; 33 * 73];
-    match board.write_sheet(&mut page) {
-        Ok(lines) => print(output, &page[..73 * lines]),
-        Err(_) => unreachable!("33 lines are room for every sheet"),
-    }
+    let lines = sheet::write_page(board.register(), &mut page);
+    print(output, &page[..73 * lines])
 }
 
 // Makes the calls of a file on the board, and prints the sheet after them, where all of them were made.

@@ -16,12 +16,13 @@ use Rattle.sets.proofs.Laws.{has-set_of, set_of_start, set_of_next_in, set_of_ne
 use Rattle.rules.specs.declared.Gate.{Gate}
 use Rattle.rules.specs.declared.Authority.{Authority}
 use Rattle.rules.specs.Board.{Board, needs, gate_at}
+use Rattle.rules.specs.Call.{gate_of}
 use Rattle.rules.specs.Refusals.{is_open, unprotected}
 use Rattle.gates.specs.Needs.{is_needed, needed_of}
 
 -- a gate is in the set where the plan has it and the limits need it
 pub needed_has : (gates : List Gate) (limits g : ℕ)
-    → has g (needed_of gates limits) ≡ (ltb g (length gates) && needs limits (gate_at gates g))
+    → has g (needed_of gates limits) ≡ (ltb g (length gates) && needs limits (gate_at gates (gate_of g)))
 unfolding needed_of
 needed_has gates limits g = has-set_of (length gates) (is_needed limits gates) g
 

@@ -13,7 +13,7 @@ use rules::{Gate, GateNo};
 
 // The gate with that number; past those of the plan stands none, a gate from 0 to 0.
 pub fn gate_at(gates: &[Gate], g: GateNo) -> Gate
-    ensures { result ≡ gate_at gates.now g.0 }
+    ensures { result ≡ gate_at gates.now g }
 {
     // Kept: beside bookings' `booking_at`; both are one expression of std, which a generic one would only name again.
     // Kept: a default and no Option, there too: document 01's conditions ask it, and the definitions give the same.

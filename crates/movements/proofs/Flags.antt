@@ -8,6 +8,9 @@ use Rattle.std.specs.Prelude.{Option, Some, None, find, is_some, eqb}
 use Rattle.std.specs.Option.{option_or, unwrap_or}
 use Rattle.lists.specs.Search.{any}
 use Rattle.sets.specs.Sets.{has}
+use Rattle.rules.specs.declared.AuthorityNo.{AuthorityNo}
+use Rattle.rules.specs.declared.TrainNo.{TrainNo}
+use Rattle.rules.specs.declared.GateNo.{GateNo}
 use Rattle.rules.specs.declared.Authority.{Authority}
 use Rattle.rules.specs.Board.{Board, no_authority, authority_no}
 use Rattle.rules.specs.Refusals.{is_e, is_w, any_e, any_w, is_other_at, taken, worked_on, barred, pilot, not_piloted}
@@ -28,7 +31,7 @@ module _ (b : Board) (p : ℕ) {e : Option Authority} (at_e : e ≡ find (is_e p
   none_e r none = ap not (sym (is_some-e b p at_e) ∙ none) ∙ not-not r
 
   -- 12: no E, and another train touches "to"
-  pub is_taken : (t : ℕ) (r : Bool) {met : Bool} → is_some e ≡ not r → met ≡ any (is_other_at t p) b.trains
+  pub is_taken : (t : TrainNo) (r : Bool) {met : Bool} → is_some e ≡ not r → met ≡ any (is_other_at t p) b.trains
       → taken b t p ≡ (r && met)
   unfolding taken
   is_taken t r none touched = rw (none_e r none, touched)
@@ -50,8 +53,8 @@ module _
     (b : Board) (p : ℕ) {e w : Option Authority}
     (at_e : e ≡ find (is_e p) b.authorities) (at_w : w ≡ find (is_w p) b.authorities) where
   -- 18: gate blocked, no E and no W
-  pub is_barred : (g : ℕ) {blocked : Bool} (r s : Bool)
-      → blocked ≡ has g b.blocks → is_some e ≡ not r → is_some w ≡ not s
+  pub is_barred : (g : GateNo) {blocked : Bool} (r s : Bool)
+      → blocked ≡ has g.0 b.blocks → is_some e ≡ not r → is_some w ≡ not s
       → barred b g p ≡ ((blocked && r) && s)
   unfolding barred
   is_barred g r s has_g none_e' none_w' = rw (none_e b p at_e r none_e', none_w b p at_w s none_w', has_g)
@@ -63,8 +66,8 @@ module _
   by_both None None is is' = rw (no_e b p at_e is, no_w b p at_w is')
 
   -- 19: authority and officer aren't those of E, else those of W, else 0 and 0
-  pub is_not_piloted : (n officer : ℕ) {a : Authority} {other : Bool}
-      → a ≡ unwrap_or (option_or e w) no_authority → other ≡ not (eqb n (authority_no a))
+  pub is_not_piloted : (n : AuthorityNo) (officer : ℕ) {a : Authority} {other : Bool}
+      → a ≡ unwrap_or (option_or e w) no_authority → other ≡ not (eqb n.0 (authority_no a))
       → not_piloted b p n officer ≡ (other || not (eqb officer a.officer))
   unfolding not_piloted
   is_not_piloted n officer is differs = rw (by_both e w refl refl, ← is, differs) (not_both _ _)

@@ -21,7 +21,7 @@ fn has_no_room(register: &Register, gate: Gate) -> bool
 // 17: from outside, the train is on the board; else it isn't there with head and rear both at "from".
 #[tactic(auto, using(trains::proofs::TrainLaws::train_there, trains::proofs::TrainLaws::train_missing), unfolding(rules::specs::Board::board_of, rules::specs::Refusals::not_there, rules::specs::Refusals::is_at))]
 fn is_not_there(register: &Register, t: TrainNo, gate: Gate) -> bool
-    ensures { result ≡ not_there (board_of register.now) t.0 gate }
+    ensures { result ≡ not_there (board_of register.now) t gate }
 {
     match trains::find_train(&register.trains, t) {
         Some(_) if gate.from == 99 => true,
@@ -57,7 +57,7 @@ pub fn answer_move(
 ) -> Result<(), Refusal>
     ensures { answer_no result
         ≡ lowest (
-        move_refusals (board_of register.now) t.0 g.0 (gate_at (board_of register.now).gates g.0) n.0 officer) }
+        move_refusals (board_of register.now) t g (gate_at (board_of register.now).gates g) n officer) }
 {
     let gate = gates::gate_at(&register.gates, g);
     let e = in_force_at(&register.authorities, gate.to, |kind| kind != Kind::Twa);
@@ -86,7 +86,7 @@ pub fn answer_move(
 
 #[tactic(auto, using(trains::proofs::TrainLaws::train_there, trains::proofs::TrainLaws::train_missing), unfolding(rules::specs::Board::board_of, rules::specs::Refusals::lowest))]
 pub fn answer_passed(register: &Register, t: TrainNo) -> Result<(), Refusal>
-    ensures { answer_no result ≡ lowest (passed_refusals (board_of register.now) t.0) }
+    ensures { answer_no result ≡ lowest (passed_refusals (board_of register.now) t) }
 {
     let x = trains::find_train(&register.trains, t).ok_or(Refusal::NoTrain)?;
     if x.head == x.rear {

@@ -28,12 +28,14 @@ pub fn print<R: Print + Eprint>(rt: &R, text: &[u8]) {
 pub fn print_row<R: Print + Eprint, const N: usize>(rt: &R, numbers: [u16; N])
     requires { N ≤ 4 }
 {
-    say_failure(rt, folder::print_row(&mut writer(rt), numbers));
+    let mut line = [b'\n'; 4 * 6 + 1];
+    columns::write_line(&mut line, &[6; N], &numbers.map(u32::from));
+    print(rt, &line[..6 * N + 1]);
 }
 
 // Prints a number in 6 columns and a line feed.
 pub fn print_number<R: Print + Eprint>(rt: &R, n: u16) {
-    say_failure(rt, folder::print_number(&mut writer(rt), n));
+    print_row(rt, [n]);
 }
 
 // Prints the sheet of a board.

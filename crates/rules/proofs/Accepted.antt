@@ -11,12 +11,13 @@ use borrow.Author.Tests.{leb-true, ltb-true}
 use Rattle.std.proofs.lemmas.Bool.{not-false}
 use Rattle.lists.proofs.Tests.{told}
 use Rattle.lists.proofs.Search.{each_at}
+use Rattle.sets.specs.Sets.{between}
 use Rattle.rules.specs.declared.Seven.{Seven}
 use Rattle.rules.specs.declared.Call.{Call}
 use Rattle.rules.specs.declared.Call.TheVariants.{Request, Withdraw, Agree, Block, Unblock, Grant, Clear, Reoccupy}
 use Rattle.rules.specs.declared.Call.TheVariants.{HandOver, Fulfil, Continue, Move, Passed, Term, Join, BookOut, BookIn}
 use Rattle.rules.specs.Board.{Board}
-use Rattle.rules.specs.Call.{Entry, between, is_new_paper, is_day, is_time, in_range, calls, no_entry, entry_of}
+use Rattle.rules.specs.Call.{Entry, is_new_paper, is_day, is_time, in_range, calls, no_entry, entry_of}
 use Rattle.rules.specs.Call.{is_call, named, in_form, in_ranges}
 use Rattle.rules.specs.Refusals.{◌when◌, own, conditions, answer}
 use Rattle.rules.proofs.Answers.{NoneHolds, condition_at, at_none, accepted_none}
@@ -25,7 +26,7 @@ use Rattle.rules.proofs.Answers.{NoneHolds, condition_at, at_none, accepted_none
 -- board's, its day and time are those of a clock, its papers have numbers
 abbrev pub Ranges : Board → Option Call → Type 0
 Ranges b None = ⊥
-Ranges b (Some (Request kind first last officer)) = (first ≤ last) × (last < b.portions)
+Ranges b (Some (Request kind low high officer)) = (low ≤ high) × (high < b.portions)
 Ranges b (Some (Withdraw n officer)) = Unit {0}
 Ranges b (Some (Agree toa twa officer)) = Unit {0}
 Ranges b (Some (Block g)) = g.0 < length b.gates
@@ -38,7 +39,7 @@ Ranges b (Some (Fulfil n officer assurances)) = Unit {0}
 Ranges b (Some (Continue old new officer_old officer_new)) = Unit {0}
 Ranges b (Some (Move t g n officer)) = g.0 < length b.gates
 Ranges b (Some (Passed t)) = Unit {0}
-Ranges b (Some (Term n day time length)) = (is_day day ≡ true) × (is_time time ≡ true)
+Ranges b (Some (Term n day time minutes)) = (is_day day ≡ true) × (is_time time ≡ true)
 Ranges b (Some (Join twa toa officer distance)) = Unit {0}
 Ranges b (Some (BookOut g paper)) = (g.0 < length b.gates) × (1 ≤ paper.0)
 Ranges b (Some (BookIn g paper certified new)) =

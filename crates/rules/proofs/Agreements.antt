@@ -14,11 +14,11 @@ use Rattle.rules.specs.declared.Authority.{Authority}
 use Rattle.rules.specs.declared.Seven.{Seven}
 use Rattle.rules.specs.declared.Call.TheVariants.{Withdraw, Clear, Reoccupy, HandOver, Fulfil, Continue}
 use Rattle.rules.specs.Board.{Board, authority_no, is_authority, live, authority}
-use Rattle.rules.specs.Call.{named}
+use Rattle.rules.specs.Call.{authority_of, named}
 use Rattle.rules.specs.Plan.{open_board}
 use Rattle.rules.specs.Refusals.{answer}
 use Rattle.rules.specs.Step.{Made, after, trace, final, Once}
-use Rattle.rules.specs.Reckoning.{Reckoned, start, agreement, reckoned}
+use Rattle.rules.specs.Reckoning.{Reckoned, at_start, agreement, reckoned}
 use Rattle.rules.proofs.Follows.{giver, authority_there}
 use Rattle.rules.proofs.Once.{once_after}
 use Rattle.rules.proofs.Recording.{lpa_kind, lpa_agreement}
@@ -29,10 +29,10 @@ use Rattle.rules.proofs.Stays.{ends, ended_by, agrees, agreed_by, the_named, aut
 -- ---- call by call, accepted or refused
 
 -- whose agreement authority n rests on, by the register
-abbrev pub recorded : Board → ℕ → ℕ
-recorded b n = (authority b n).agreed.0
+abbrev pub recorded : Board → AuthorityNo → AuthorityNo
+recorded b n = (authority b n).agreed
 
-module _ (b : Board) (o : Once b) (s : Seven) (room n : ℕ) (l : live b n ≡ true) where
+module _ (b : Board) (o : Once b) (s : Seven) (room : ℕ) (n : AuthorityNo) (l : live b n ≡ true) where
   -- after the call authority n is live, with the number that it had recorded
   abbrev pub KeepsNumber : Type 0
   KeepsNumber = (live (after b s room) n ≡ true) × (recorded (after b s room) n ≡ recorded b n)
@@ -43,20 +43,20 @@ module _ (b : Board) (o : Once b) (s : Seven) (room n : ℕ) (l : live b n ≡ t
   call_keeps e g =
       let made : Made = record { seven = s; room = room } in
       let there = authority_there b n l in
-      let number : authority_no (authority b n) ≡ n = there.1 in
+      let number : (authority b n).number ≡ n = ap authority_of there.1 in
       let done = eqb (answer b s room) 0 in
-      let not-ended : (done && ends (authority_no (authority b n)) (named s)) ≡ false =
-      ap (λ (m : ℕ). done && ends m (named s)) number ∙ ap (λ (t : Bool). done && t) e ∙ and-false done in
-      let not-agreed : (done && agrees (authority_no (authority b n)) (named s)) ≡ false =
-      ap (λ (m : ℕ). done && agrees m (named s)) number ∙ ap (λ (t : Bool). done && t) g ∙ and-false done in
+      let not-ended : (done && ends (authority b n).number (named s)) ≡ false =
+      ap (λ (m : AuthorityNo). done && ends m (named s)) number ∙ ap (λ (t : Bool). done && t) e ∙ and-false done in
+      let not-agreed : (done && agrees (authority b n).number (named s)) ≡ false =
+      ap (λ (m : AuthorityNo). done && agrees m (named s)) number ∙ ap (λ (t : Bool). done && t) g ∙ and-false done in
       let (a, m, k) = authority_stays (made ∷ []) b o (authority b n) there.0 (or_from _ false not-ended refl) in
-      let is : is_authority n a ≡ true = eq-eqb (authority_no a) n (k.number ∙ number) in
+      let is : is_authority n a ≡ true =
+      eq-eqb (authority_no a) n.0 (ap (λ (m : AuthorityNo). m.0) (k.number ∙ number)) in
       let held : live (after b s room) n ≡ true = any_yes (is_authority n) (after b s room).authorities a m is in
       let same : authority (after b s room) n ≡ a =
       the_named (after b s room) (once_after b s room o) n a held m is in (
         held,
-        ap (λ (x : Authority). x.agreed.0) same
-            ∙ ap (λ (x : AuthorityNo). x.0) (k.agreement (or_from _ false not-agreed refl)),
+        ap (λ (x : Authority). x.agreed) same ∙ k.agreement (or_from _ false not-agreed refl),
       )
 
   -- "HAND OVER, CLEAR, REOCCUPY [..] keep the recorded number": of the one that they name, and of any other
@@ -73,22 +73,22 @@ module _ (b : Board) (o : Once b) (s : Seven) (room n : ℕ) (l : live b n ≡ t
   reoccupy_keeps m officer e = call_keeps (ap (ends n) e) (ap (agrees n) e)
 
   -- "and the other authority's ending": whichever other it is
-  pub withdraw_keeps : (m : AuthorityNo) (officer : ℕ) → named s ≡ Some (Withdraw m officer) → (n ≡ m.0 → ⊥)
+  pub withdraw_keeps : (m : AuthorityNo) (officer : ℕ) → named s ≡ Some (Withdraw m officer) → (n.0 ≡ m.0 → ⊥)
       → KeepsNumber
   unfolding ends agrees
-  withdraw_keeps m officer e other = call_keeps (ap (ends n) e ∙ ne_eqb n m.0 other) (ap (agrees n) e)
+  withdraw_keeps m officer e other = call_keeps (ap (ends n) e ∙ ne_eqb n.0 m.0 other) (ap (agrees n) e)
 
   pub fulfil_keeps : (m : AuthorityNo) (officer assurances : ℕ) → named s ≡ Some (Fulfil m officer assurances)
-      → (n ≡ m.0 → ⊥) → KeepsNumber
+      → (n.0 ≡ m.0 → ⊥) → KeepsNumber
   unfolding ends agrees
-  fulfil_keeps m officer assurances e other = call_keeps (ap (ends n) e ∙ ne_eqb n m.0 other) (ap (agrees n) e)
+  fulfil_keeps m officer assurances e other = call_keeps (ap (ends n) e ∙ ne_eqb n.0 m.0 other) (ap (agrees n) e)
 
   -- of the new one too: after CONTINUE it has its own, and not old's
   pub continue_keeps : (old new : AuthorityNo) (officer_old officer_new : ℕ)
-      → named s ≡ Some (Continue old new officer_old officer_new) → (n ≡ old.0 → ⊥) → KeepsNumber
+      → named s ≡ Some (Continue old new officer_old officer_new) → (n.0 ≡ old.0 → ⊥) → KeepsNumber
   unfolding ends agrees
   continue_keeps old new officer_old officer_new e other =
-      call_keeps (ap (ends n) e ∙ ne_eqb n old.0 other) (ap (agrees n) e)
+      call_keeps (ap (ends n) e ∙ ne_eqb n.0 old.0 other) (ap (agrees n) e)
 
 -- ---- after every list of calls
 
@@ -102,7 +102,7 @@ pub record Recorded (A : ℕ → Reckoned) (a : Authority) : Type 0 where
 -- recorded is the one that its last AGREE or JOIN names, 0 for none: read off the calls and answers alone
 pub list_agreements : (text : List ℕ) (ms : List Made) (a : Authority)
     → Member a (final (open_board text) ms).authorities
-    → Recorded (reckoned (open_board text).gates start (trace (open_board text) ms)).authority a
+    → Recorded (reckoned (open_board text).gates at_start (trace (open_board text) ms)).authority a
 list_agreements text ms a m =
     let F = list_follows text ms in
     record { number = sym (F.held a m).agreement; by = λ z. (F.rests a m z).0 }
@@ -112,5 +112,5 @@ pub list_lpas : (text : List ℕ) (ms : List Made) → NoneOfLpas (final (open_b
 list_lpas text ms a m e =
     let h = (list_follows text ms).held a m in
     let x : Reckoned =
-    (reckoned (open_board text).gates start (trace (open_board text) ms)).authority (authority_no a) in
+    (reckoned (open_board text).gates at_start (trace (open_board text) ms)).authority (authority_no a) in
     sym h.agreement ∙ lpa_agreement x (h.kind ∙ lpa_kind a.kind e)

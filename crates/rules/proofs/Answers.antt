@@ -38,7 +38,7 @@ ascends n (r ∷ rs) = ltb n r.number && ascends r.number rs
 own-ascends : (b : Board) (s : Seven) (c : Option Call) → ascends 4 (own b s c) ≡ true
 unfolding ascends own
 own-ascends b s None = refl
-own-ascends b s (Some (Request kind first last officer)) = refl
+own-ascends b s (Some (Request kind low high officer)) = refl
 own-ascends b s (Some (Withdraw n officer)) = refl
 own-ascends b s (Some (Agree toa twa officer)) = refl
 own-ascends b s (Some (Block g)) = refl
@@ -51,7 +51,7 @@ own-ascends b s (Some (Fulfil n officer assurances)) = refl
 own-ascends b s (Some (Continue old new officer_old officer_new)) = refl
 own-ascends b s (Some (Move t g n officer)) = refl
 own-ascends b s (Some (Passed t)) = refl
-own-ascends b s (Some (Term n day time length)) = refl
+own-ascends b s (Some (Term n day time minutes)) = refl
 own-ascends b s (Some (Join twa toa officer distance)) = refl
 own-ascends b s (Some (BookOut g paper)) = refl
 own-ascends b s (Some (BookIn g paper certified new)) = refl

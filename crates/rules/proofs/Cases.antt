@@ -30,11 +30,11 @@ plan_text =
     ++ bytes "     2    99     1\n"
 
 -- the call at a time of a day, and of day 0
-abbrev pub on : ℕ → ℕ → ℕ → ℕ → ℕ → ℕ → ℕ → Seven
-on day time call a b c d = record { day = day; time = time; call = call; a = a; b = b; c = c; d = d }
+abbrev pub on_day : ℕ → ℕ → ℕ → ℕ → ℕ → ℕ → ℕ → Seven
+on_day day time call a b c d = record { day = day; time = time; call = call; a = a; b = b; c = c; d = d }
 
 abbrev pub at : ℕ → ℕ → ℕ → ℕ → ℕ → ℕ → Seven
-at time call a b c d = on 0 time call a b c d
+at time call a b c d = on_day 0 time call a b c d
 
 -- the journal of a list of calls: the lines that they write to buffers of 55 bytes
 unfoldable pub printed : Board.Board → List Seven → List ℕ
@@ -53,19 +53,19 @@ abbrev pub block_all : List Seven
 block_all = at 1 4 0 0 0 0 ∷ at 1 4 1 0 0 0 ∷ at 1 4 2 0 0 0 ∷ at 1 4 3 0 0 0 ∷ []
 
 abbrev pub on_blocked : List Seven → List ℕ
-on_blocked calls = answers (Plan.open_board plan_text) (block_all ++ calls)
+on_blocked rest = answers (Plan.open_board plan_text) (block_all ++ rest)
 
 -- an LPA over portion 1, its gate blocked, with a TERM made at 0600 of day 0: the answers of these three and of the
 -- calls that follow
 abbrev pub on_term : ℕ → ℕ → ℕ → List Seven → List ℕ
-on_term day time length calls =
-    answers (Plan.open_board plan_text) (at 600 1 1 1 1 7 ∷ at 600 4 1 0 0 0 ∷ at 600 14 1 day time length ∷ calls)
+on_term day time minutes rest =
+    answers (Plan.open_board plan_text) (at 600 1 1 1 1 7 ∷ at 600 4 1 0 0 0 ∷ at 600 14 1 day time minutes ∷ rest)
 
 -- E10's two, a TWA in force over portion 1 and a pending TOA over 0 to 2, with a JOIN at that distance: the answers of
 -- the four BLOCKs, of these four calls and of the calls that follow
 abbrev pub on_join : ℕ → List Seven → List ℕ
-on_join distance calls =
-    on_blocked (at 1 1 3 1 1 7 ∷ at 1 6 1 7 0 0 ∷ at 1 1 2 0 2 8 ∷ at 1 15 1 2 7 distance ∷ calls)
+on_join distance rest =
+    on_blocked (at 1 1 3 1 1 7 ∷ at 1 6 1 7 0 0 ∷ at 1 1 2 0 2 8 ∷ at 1 15 1 2 7 distance ∷ rest)
 
 -- the numbers of the trains on the board after a list of calls, in the register's order
 unfoldable pub trains_after : Board.Board → List Seven → List ℕ
@@ -83,7 +83,7 @@ unfoldable pub plain_text : List ℕ
 plain_text = bytes "     1     2     0\n" ++ bytes "    99     0     4\n" ++ bytes "     0    99     1\n"
 
 abbrev pub on_plain : List Seven → List ℕ
-on_plain calls = answers (Plan.open_board plain_text) calls
+on_plain rest = answers (Plan.open_board plain_text) rest
 
 -- the paper of each gate, and the one that it replaced, after a list of calls
 abbrev pub papers : Booking → List ℕ
@@ -95,15 +95,15 @@ papers_after b (s ∷ ss) = papers_after (Step.after b s 55) ss
 
 -- the number of each live authority and the one that it has recorded, after a list of calls on that plan with every
 -- gate blocked
-abbrev pub numbers : Authority → List ℕ
-numbers a = Board.authority_no a ∷ a.agreed.0 ∷ []
+abbrev pub pair_of : Authority → List ℕ
+pair_of a = Board.authority_no a ∷ a.agreed.0 ∷ []
 
 unfoldable pub recorded_after : Board.Board → List Seven → List (List ℕ)
-recorded_after b [] = map numbers b.authorities
+recorded_after b [] = map pair_of b.authorities
 recorded_after b (s ∷ ss) = recorded_after (Step.after b s 55) ss
 
 abbrev pub recorded_on : List Seven → List (List ℕ)
-recorded_on calls = recorded_after (Plan.open_board plan_text) (block_all ++ calls)
+recorded_on rest = recorded_after (Plan.open_board plan_text) (block_all ++ rest)
 
 -- E9's two in force, a TOA over 0 to 2 and the TWA over 1 that it has agreed; and E10's two with a JOIN, both in force
 abbrev pub agreed_two : List Seven
@@ -147,13 +147,13 @@ pub record Cases : Type 0 where
       ++ bytes "     0  2204     5     1     0     0     0     0     0\n"
       ++ bytes "     0  2260     5     1     0     0     0     3     0\n"
   -- order 1: 10,079 minutes ahead is 21 and leaves no term, 10,080 serves; a second TERM is 8
-  pub notice : on_term 7 559 60 (on 7 559 6 1 7 0 0 ∷ []) ≡ 0 ∷ 0 ∷ 21 ∷ 22 ∷ []
+  pub notice : on_term 7 559 60 (on_day 7 559 6 1 7 0 0 ∷ []) ≡ 0 ∷ 0 ∷ 21 ∷ 22 ∷ []
   pub week : on_term 7 600 60 (at 600 14 1 7 600 60 ∷ []) ≡ 0 ∷ 0 ∷ 0 ∷ 8 ∷ []
   -- order 1: from 2330 of day 7 for an hour, over midnight: 22 in the minute before, 0 at the start; 0 in the last
   -- minute, 22 in the one after
-  pub start : on_term 7 2330 60 (on 7 2329 6 1 7 0 0 ∷ on 7 2330 6 1 7 0 0 ∷ []) ≡ 0 ∷ 0 ∷ 0 ∷ 22 ∷ 0 ∷ []
-  pub end : on_term 7 2330 60 (on 8 29 6 1 7 0 0 ∷ []) ≡ 0 ∷ 0 ∷ 0 ∷ 0 ∷ []
-  pub over : on_term 7 2330 60 (on 8 30 6 1 7 0 0 ∷ []) ≡ 0 ∷ 0 ∷ 0 ∷ 22 ∷ []
+  pub start : on_term 7 2330 60 (on_day 7 2329 6 1 7 0 0 ∷ on_day 7 2330 6 1 7 0 0 ∷ []) ≡ 0 ∷ 0 ∷ 0 ∷ 22 ∷ 0 ∷ []
+  pub end : on_term 7 2330 60 (on_day 8 29 6 1 7 0 0 ∷ []) ≡ 0 ∷ 0 ∷ 0 ∷ 0 ∷ []
+  pub over : on_term 7 2330 60 (on_day 8 30 6 1 7 0 0 ∷ []) ≡ 0 ∷ 0 ∷ 0 ∷ 22 ∷ []
   -- order 4: E10 with a JOIN at 500 and at 1000 metres: 0. At 499 and at 1001 JOIN is 24 and leaves nothing: 13
   pub nearest : on_join 500 (at 1 6 2 8 0 0 ∷ []) ≡ 0 ∷ 0 ∷ 0 ∷ 0 ∷ 0 ∷ 0 ∷ 0 ∷ 0 ∷ 0 ∷ []
   pub farthest : on_join 1000 (at 1 6 2 8 0 0 ∷ []) ≡ 0 ∷ 0 ∷ 0 ∷ 0 ∷ 0 ∷ 0 ∷ 0 ∷ 0 ∷ 0 ∷ []

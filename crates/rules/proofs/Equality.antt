@@ -10,10 +10,11 @@ use mathlib.Core.List.{List, [], ◌∷◌}
 use Rattle.lists.specs.Order.{Ascending}
 use Rattle.lists.proofs.Search.{Member}
 use Rattle.lists.proofs.Order.{Above}
+use Rattle.rules.specs.declared.AuthorityNo.{AuthorityNo}
 use Rattle.rules.specs.declared.Authority.{Authority}
 use Rattle.rules.specs.declared.kind.Kind.{Kind}
 use Rattle.rules.specs.declared.kind.Kind.TheVariants.{Lpa, Toa, Twa}
-use Rattle.rules.specs.Call.{kind_of}
+use Rattle.rules.specs.Call.{authority_of, kind_of}
 use Rattle.rules.specs.Board.{Board, kind_no, is_lpa, is_toa, is_twa, authority_no, train_no, SameAuthority, InOrder}
 use Rattle.rules.specs.Board.{Same}
 use Rattle.rules.specs.Step.{Once}
@@ -29,7 +30,7 @@ same_authority a = record {
   agreed = λ t. refl;
   joined = λ t. refl;
   start = refl;
-  length = refl;
+  minutes = refl;
 }
 
 in_order_refl : (xs : List Authority) → InOrder SameAuthority xs xs
@@ -65,7 +66,7 @@ then_authority x y z s t = record {
   agreed = λ w. s.agreed w ∙ t.agreed (ap is_twa (sym s.kind) ∙ w);
   joined = λ w. s.joined w ∙ t.joined (ap is_toa (sym s.kind) ∙ w);
   start = s.start ∙ t.start;
-  length = s.length ∙ t.length;
+  minutes = s.minutes ∙ t.minutes;
 }
 
 turn_authority : (x y : Authority) → SameAuthority x y → SameAuthority y x
@@ -79,7 +80,7 @@ turn_authority x y s = record {
   agreed = λ w. sym (s.agreed (ap is_twa s.kind ∙ w));
   joined = λ w. sym (s.joined (ap is_toa s.kind ∙ w));
   start = sym s.start;
-  length = sym s.length;
+  minutes = sym s.minutes;
 }
 
 in_order_sym : (xs ys : List Authority) → InOrder SameAuthority xs ys → InOrder SameAuthority ys xs
@@ -219,7 +220,7 @@ sets_same b c o p s = record {
   last = s.last;
   blocks = s.blocks;
   authorities =
-      each_in_order authority_no SameAuthority (λ x y l. l.number)
+      each_in_order authority_no SameAuthority (λ x y l. ap (λ (n : AuthorityNo). n.0) l.number)
       b.authorities c.authorities o.authorities p.authorities s.authorities s.authorities';
   trains =
       in_order_equal b.trains c.trains
@@ -234,13 +235,13 @@ abbrev pub NoneOfLpas : List Authority → Type 0
 NoneOfLpas xs = (a : Authority) → Member a xs → is_lpa a.kind ≡ true → a.agreed.0 ≡ 0
 
 equal_agreed : (x y : Authority) (k : Kind) → x.kind ≡ k → SameAuthority x y → (is_lpa x.kind ≡ true → x.agreed.0 ≡ 0)
-    → (is_lpa y.kind ≡ true → y.agreed.0 ≡ 0) → x.agreed.0 ≡ y.agreed.0
-equal_agreed x y Lpa e s f g = f (ap is_lpa e) ∙ sym (g (ap is_lpa (sym s.kind ∙ e)))
+    → (is_lpa y.kind ≡ true → y.agreed.0 ≡ 0) → x.agreed ≡ y.agreed
+equal_agreed x y Lpa e s f g = ap authority_of (f (ap is_lpa e) ∙ sym (g (ap is_lpa (sym s.kind ∙ e))))
 equal_agreed x y Toa e s f g = s.joined (ap is_toa e)
 equal_agreed x y Twa e s f g = s.agreed (ap is_twa e)
 
-equal_authority : (x y : Authority) → SameAuthority x y → x.agreed.0 ≡ y.agreed.0 → x ≡ y
-equal_authority x y s e = rw (s.number, s.kind, s.limits, s.officer, s.stage, s.site, e, s.start, s.length)
+equal_authority : (x y : Authority) → SameAuthority x y → x.agreed ≡ y.agreed → x ≡ y
+equal_authority x y s e = rw (s.number, s.kind, s.limits, s.officer, s.stage, s.site, e, s.start, s.minutes)
 
 equal_authorities : (xs ys : List Authority) → NoneOfLpas xs → NoneOfLpas ys → InOrder SameAuthority xs ys → xs ≡ ys
 equal_authorities [] (y ∷ ys) f g s = elim s [ ]

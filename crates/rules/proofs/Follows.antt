@@ -11,6 +11,8 @@ use Rattle.lists.specs.Search.{first}
 use Rattle.lists.proofs.Search.{Member, first_found, kept, change_each}
 use Rattle.lists.proofs.Distinct.{Taken, taken_change, taken_keep}
 use Rattle.sets.specs.Sets.{has}
+use Rattle.rules.specs.declared.AuthorityNo.{AuthorityNo}
+use Rattle.rules.specs.declared.TrainNo.{TrainNo}
 use Rattle.rules.specs.declared.Authority.{Authority}
 use Rattle.rules.specs.declared.Train.{Train}
 use Rattle.rules.specs.declared.Booking.{Booking}
@@ -94,7 +96,7 @@ abbrev pub AllPlaced : (ℕ → Position) → List Train → Type 0
 AllPlaced T ts = (t : Train) → Member t ts → Placed (T (train_no t)) t
 
 pub record Follows (b : Board) (r : Reckoning.Reckoning) : Type 0 where
-  pub requests : b.last ≡ r.requests
+  pub requests : b.last.0 ≡ r.requests
   pub portions : b.portions ≤ 64
   pub held : AllHeld r.requests r.authority b.authorities
   pub rests : AllRest r.requests r.authority b.authorities
@@ -109,69 +111,73 @@ pub record Follows (b : Board) (r : Reckoning.Reckoning) : Type 0 where
 
 -- ---- what a search finds
 
-pub authority_there : (b : Board) (n : ℕ) → live b n ≡ true
-    → Member (authority b n) b.authorities × (authority_no (authority b n) ≡ n)
+pub authority_there : (b : Board) (n : AuthorityNo) → live b n ≡ true
+    → Member (authority b n) b.authorities × (authority_no (authority b n) ≡ n.0)
 unfolding live authority
 authority_there b n h =
     let f = first_found (is_authority n) no_authority b.authorities h in
-    (f.member, eqb-true (authority_no (first (is_authority n) no_authority b.authorities)) n f.passes)
+    (f.member, eqb-true (authority_no (first (is_authority n) no_authority b.authorities)) n.0 f.passes)
 
-pub train_there : (b : Board) (n : ℕ) → on_board b n ≡ true → Member (train b n) b.trains × (train_no (train b n) ≡ n)
+pub train_there : (b : Board) (n : TrainNo) → on_board b n ≡ true
+    → Member (train b n) b.trains × (train_no (train b n) ≡ n.0)
 unfolding on_board train
 train_there b n h =
     let f = first_found (is_train n) no_train b.trains h in
-    (f.member, eqb-true (train_no (first (is_train n) no_train b.trains)) n f.passes)
+    (f.member, eqb-true (train_no (first (is_train n) no_train b.trains)) n.0 f.passes)
 
 -- ---- one ended, one gone
 
-pub ended_member : (n : ℕ) (xs : List Authority) (a : Authority) → Member a (ended n xs)
-    → Member a xs × (authority_no a ≡ n → ⊥)
+pub ended_member : (n : AuthorityNo) (xs : List Authority) (a : Authority) → Member a (ended n xs)
+    → Member a xs × (authority_no a ≡ n.0 → ⊥)
 ended_member n xs a m =
     let k = kept (is_not_authority n) xs a m in
-    (k.member, eqb-false (authority_no a) n (not-true (is_authority n a) k.passes))
+    (k.member, eqb-false (authority_no a) n.0 (not-true (is_authority n a) k.passes))
 
-pub there_ended : (n : ℕ) (xs : List Authority) (m : ℕ) → (m ≡ n → ⊥) → Taken authority_no xs m
+pub there_ended : (n : AuthorityNo) (xs : List Authority) (m : ℕ) → (m ≡ n.0 → ⊥) → Taken authority_no xs m
     → Taken authority_no (ended n xs) m
 there_ended n xs m h =
-    taken_keep authority_no (is_not_authority n) xs m (λ a e. ap not (ne_eqb (authority_no a) n (λ q. h (sym e ∙ q))))
+    taken_keep authority_no (is_not_authority n) xs m (λ a e. ap not (ne_eqb (authority_no a) n.0 (λ q. h (sym e ∙ q))))
 
-pub gone_member : (n : ℕ) (xs : List Train) (t : Train) → Member t (gone n xs) → Member t xs × (train_no t ≡ n → ⊥)
+pub gone_member : (n : TrainNo) (xs : List Train) (t : Train) → Member t (gone n xs)
+    → Member t xs × (train_no t ≡ n.0 → ⊥)
 gone_member n xs t m =
     let k = kept (is_not_train n) xs t m in
-    (k.member, eqb-false (train_no t) n (not-true (is_train n t) k.passes))
+    (k.member, eqb-false (train_no t) n.0 (not-true (is_train n t) k.passes))
 
-pub runs_gone : (n : ℕ) (xs : List Train) (m : ℕ) → (m ≡ n → ⊥) → Taken train_no xs m → Taken train_no (gone n xs) m
+pub runs_gone : (n : TrainNo) (xs : List Train) (m : ℕ) → (m ≡ n.0 → ⊥) → Taken train_no xs m
+    → Taken train_no (gone n xs) m
 runs_gone n xs m h =
-    taken_keep train_no (is_not_train n) xs m (λ t e. ap not (ne_eqb (train_no t) n (λ q. h (sym e ∙ q))))
+    taken_keep train_no (is_not_train n) xs m (λ t e. ap not (ne_eqb (train_no t) n.0 (λ q. h (sym e ∙ q))))
 
 -- ---- one authority changed and reckoned anew, its number kept
 
-pub held_amended : (n : ℕ) (g : Authority → Authority) → ((a : Authority) → authority_no (g a) ≡ authority_no a)
+pub held_amended : (n : AuthorityNo) (g : Authority → Authority)
+    → ((a : Authority) → authority_no (g a) ≡ authority_no a)
     → (requests : ℕ) (x : Reckoned) (A : ℕ → Reckoned) (xs : List Authority)
-    → ((a : Authority) → Held requests (A n) a → Held requests x (g a))
-    → AllHeld requests A xs → AllHeld requests (put n x A) (amended n g xs)
+    → ((a : Authority) → Held requests (A n.0) a → Held requests x (g a))
+    → AllHeld requests A xs → AllHeld requests (put n.0 x A) (amended n g xs)
 held_amended n g same requests x A xs new old =
-    change_each (λ (a : Authority). Held requests (put n x A (authority_no a)) a) (is_authority n) g xs
+    change_each (λ (a : Authority). Held requests (put n.0 x A (authority_no a)) a) (is_authority n) g xs
     (λ a m e. subst (λ (y : Reckoned). Held requests y a)
-    (sym (put_other n x A (authority_no a) (eqb-false (authority_no a) n e))) (old a m))
+    (sym (put_other n.0 x A (authority_no a) (eqb-false (authority_no a) n.0 e))) (old a m))
     (λ a m e.
-    let is : authority_no a ≡ n = eqb-true (authority_no a) n e in
-    subst (λ (y : Reckoned). Held requests y (g a)) (sym (ap (put n x A) (same a ∙ is) ∙ put_same n x A))
+    let is : authority_no a ≡ n.0 = eqb-true (authority_no a) n.0 e in
+    subst (λ (y : Reckoned). Held requests y (g a)) (sym (ap (put n.0 x A) (same a ∙ is) ∙ put_same n.0 x A))
     (new a (subst (λ (i : ℕ). Held requests (A i) a) is (old a m))))
 
 -- ---- one train changed and reckoned anew, its number kept
 
-pub placed_moved : (n : ℕ) (g : Train → Train) → ((t : Train) → train_no (g t) ≡ train_no t)
+pub placed_moved : (n : TrainNo) (g : Train → Train) → ((t : Train) → train_no (g t) ≡ train_no t)
     → (y : Position) (T : ℕ → Position) (ts : List Train)
-    → ((t : Train) → Placed (T n) t → Placed y (g t))
-    → AllPlaced T ts → AllPlaced (put n y T) (moved n g ts)
+    → ((t : Train) → Placed (T n.0) t → Placed y (g t))
+    → AllPlaced T ts → AllPlaced (put n.0 y T) (moved n g ts)
 placed_moved n g same y T ts new old =
-    change_each (λ (t : Train). Placed (put n y T (train_no t)) t) (is_train n) g ts
-    (λ t m e. subst (λ (z : Position). Placed z t) (sym (put_other n y T (train_no t) (eqb-false (train_no t) n e)))
+    change_each (λ (t : Train). Placed (put n.0 y T (train_no t)) t) (is_train n) g ts
+    (λ t m e. subst (λ (z : Position). Placed z t) (sym (put_other n.0 y T (train_no t) (eqb-false (train_no t) n.0 e)))
     (old t m))
     (λ t m e.
-    let is : train_no t ≡ n = eqb-true (train_no t) n e in
-    subst (λ (z : Position). Placed z (g t)) (sym (ap (put n y T) (same t ∙ is) ∙ put_same n y T))
+    let is : train_no t ≡ n.0 = eqb-true (train_no t) n.0 e in
+    subst (λ (z : Position). Placed z (g t)) (sym (ap (put n.0 y T) (same t ∙ is) ∙ put_same n.0 y T))
     (new t (subst (λ (i : ℕ). Placed (T i) t) is (old t m))))
 
 -- ---- the board still follows
@@ -197,31 +203,31 @@ module _ (b : Board) (r : Reckoning.Reckoning) (F : Follows b r) where
   )
 
   -- one authority changed, and reckoned as x; after it the last to come into force has the number `grants`
-  pub follows_amended : (n : ℕ) (g : Authority → Authority) (x : Reckoned) (grants : ℕ)
+  pub follows_amended : (n : AuthorityNo) (g : Authority → Authority) (x : Reckoned) (grants : ℕ)
       → ((a : Authority) → authority_no (g a) ≡ authority_no a)
-      → x.kind ≡ (r.authority n).kind
-      → ((a : Authority) → Held r.requests (r.authority n) a → Held r.requests x (g a))
-      → ((a : Authority) → Member a b.authorities → authority_no a ≡ n
+      → x.kind ≡ (r.authority n.0).kind
+      → ((a : Authority) → Held r.requests (r.authority n.0) a → Held r.requests x (g a))
+      → ((a : Authority) → Member a b.authorities → authority_no a ≡ n.0
       → Rests r.requests r.authority (g a).kind (g a).agreed.0)
-      → Taken authority_no b.authorities n
+      → Taken authority_no b.authorities n.0
       → r.grants ≤ grants
       → (x.is_in_force ≡ true → x.since ≤ grants)
-      → Follows (with_authorities (amended n g b.authorities) b) (reckoned_as r r.requests grants n x)
+      → Follows (with_authorities (amended n g b.authorities) b) (reckoned_as r r.requests grants n.0 x)
   follows_amended n g x grants same kind held rests there later since = record {
     requests = F.requests;
     portions = F.portions;
     held = held_amended n g same r.requests x r.authority b.authorities held F.held;
     rests =
-        rests_put n x (amended n g b.authorities) kind
+        rests_put n.0 x (amended n g b.authorities) kind
         (change_each (λ (a : Authority). Rests r.requests r.authority a.kind a.agreed.0)
         (is_authority n) g b.authorities
-        (λ a m e. F.rests a m) (λ a m e. rests a m (eqb-true (authority_no a) n e)));
+        (λ a m e. F.rests a m) (λ a m e. rests a m (eqb-true (authority_no a) n.0 e)));
     since =
-        put_all (λ (m : ℕ) (y : Reckoned). y.is_in_force ≡ true → y.since ≤ grants) n x r.authority since
+        put_all (λ (m : ℕ) (y : Reckoned). y.is_in_force ≡ true → y.since ≤ grants) n.0 x r.authority since
         (λ m ne f. omega (arith, F.since m f));
     there =
         λ m f. taken_change authority_no (is_authority n) g same b.authorities m
-        (put_all (λ (m : ℕ) (y : Reckoned). y.is_in_force ≡ true → Taken authority_no b.authorities m) n x r.authority
+        (put_all (λ (m : ℕ) (y : Reckoned). y.is_in_force ≡ true → Taken authority_no b.authorities m) n.0 x r.authority
         (λ f. there) (λ m ne f. F.there m f) m f);
     placed = F.placed;
     runs = F.runs;
@@ -229,12 +235,13 @@ module _ (b : Board) (r : Reckoning.Reckoning) (F : Follows b r) where
     gates = F.gates;
     blocked = F.blocked;
     unallotted =
-        put_all (λ (m : ℕ) (y : Reckoned). r.requests < m → (y.agreed ≡ 0) × (y.joined ≡ 0)) n x r.authority
+        put_all (λ (m : ℕ) (y : Reckoned). r.requests < m → (y.agreed ≡ 0) × (y.joined ≡ 0)) n.0 x r.authority
         (λ l. let (a, m, e) = there in absurd (omega (arith, (F.held a m).allotted, e))) (λ m ne. F.unallotted m);
   }
 
   -- one authority changed in what isn't reckoned
-  pub follows_unreckoned : (n : ℕ) (g : Authority → Authority) → ((a : Authority) → authority_no (g a) ≡ authority_no a)
+  pub follows_unreckoned : (n : AuthorityNo) (g : Authority → Authority)
+      → ((a : Authority) → authority_no (g a) ≡ authority_no a)
       → ((a : Authority) → (g a).kind ≡ a.kind)
       → ((a : Authority) → (g a).agreed.0 ≡ a.agreed.0)
       → ((a : Authority) (x : Reckoned) → Held r.requests x a → Held r.requests x (g a))
@@ -263,9 +270,9 @@ module _ (b : Board) (r : Reckoning.Reckoning) (F : Follows b r) where
   }
 
   -- one authority ended
-  pub follows_ended : (n : ℕ)
+  pub follows_ended : (n : AuthorityNo)
       → Follows (with_authorities (ended n b.authorities) b)
-      (Reckoning.with_authorities (put n (as_ended (r.authority n)) r.authority) r)
+      (Reckoning.with_reckoned (put n.0 (as_ended (r.authority n.0)) r.authority) r)
   follows_ended n = record {
     requests = F.requests;
     portions = F.portions;
@@ -273,18 +280,18 @@ module _ (b : Board) (r : Reckoning.Reckoning) (F : Follows b r) where
         λ a m.
         let k = ended_member n b.authorities a m in
         subst (λ (y : Reckoned). Held r.requests y a)
-        (sym (put_other n (as_ended (r.authority n)) r.authority (authority_no a) k.1))
+        (sym (put_other n.0 (as_ended (r.authority n.0)) r.authority (authority_no a) k.1))
         (F.held a k.0);
     rests =
-        rests_put n (as_ended (r.authority n)) (ended n b.authorities) refl
+        rests_put n.0 (as_ended (r.authority n.0)) (ended n b.authorities) refl
         (λ a m. F.rests a (ended_member n b.authorities a m).0);
     since =
-        put_all (λ (m : ℕ) (y : Reckoned). y.is_in_force ≡ true → y.since ≤ r.grants) n
-        (as_ended (r.authority n)) r.authority
+        put_all (λ (m : ℕ) (y : Reckoned). y.is_in_force ≡ true → y.since ≤ r.grants) n.0
+        (as_ended (r.authority n.0)) r.authority
         (λ f. absurd (false≢true f)) (λ m ne f. F.since m f);
     there =
-        put_all (λ (m : ℕ) (y : Reckoned). y.is_in_force ≡ true → Taken authority_no (ended n b.authorities) m) n
-        (as_ended (r.authority n)) r.authority
+        put_all (λ (m : ℕ) (y : Reckoned). y.is_in_force ≡ true → Taken authority_no (ended n b.authorities) m) n.0
+        (as_ended (r.authority n.0)) r.authority
         (λ f. absurd (false≢true f)) (λ m ne f. there_ended n b.authorities m ne (F.there m f));
     placed = F.placed;
     runs = F.runs;
@@ -292,15 +299,15 @@ module _ (b : Board) (r : Reckoning.Reckoning) (F : Follows b r) where
     gates = F.gates;
     blocked = F.blocked;
     unallotted =
-        put_all (λ (m : ℕ) (y : Reckoned). r.requests < m → (y.agreed ≡ 0) × (y.joined ≡ 0)) n
-        (as_ended (r.authority n)) r.authority
-        (F.unallotted n) (λ m ne. F.unallotted m);
+        put_all (λ (m : ℕ) (y : Reckoned). r.requests < m → (y.agreed ≡ 0) × (y.joined ≡ 0)) n.0
+        (as_ended (r.authority n.0)) r.authority
+        (F.unallotted n.0) (λ m ne. F.unallotted m);
   }
 
   -- other trains
   pub follows_trains : (ts : List Train) (T : ℕ → Position) → AllPlaced T ts
       → ((n : ℕ) → (T n).on_board ≡ true → Taken train_no ts n)
-      → Follows (with_trains ts b) (Reckoning.with_trains T r)
+      → Follows (with_trains ts b) (Reckoning.with_positions T r)
   follows_trains ts T p q = record {
     requests = F.requests;
     portions = F.portions;

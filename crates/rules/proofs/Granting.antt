@@ -14,7 +14,7 @@ use Rattle.std.proofs.lemmas.Bool.{and_from, or_cases, or_left, or_right, not-fa
 use Rattle.lists.proofs.Tests.{truth, clash, told, shown, and_no_r}
 use Rattle.lists.proofs.Search.{Member, any_no, below_has, change_each}
 use Rattle.lists.proofs.Distinct.{taken_change}
-use Rattle.sets.specs.Sets.{has, shares}
+use Rattle.sets.specs.Sets.{between, has, shares}
 use Rattle.sets.proofs.Laws.{shares_some}
 use Rattle.rules.specs.declared.AuthorityNo.{AuthorityNo}
 use Rattle.rules.specs.declared.kind.Kind.TheVariants.{Twa}
@@ -24,7 +24,7 @@ use Rattle.rules.specs.declared.Seven.{Seven}
 use Rattle.rules.specs.declared.Call.TheVariants.{Grant, Reoccupy, Continue}
 use Rattle.rules.specs.Board.{Board, gate_at, exclusive, is_toa, is_twa, is_in_force, authority_no, train_no, live}
 use Rattle.rules.specs.Board.{authority, touches, needs, with_authorities, with_trains, ended}
-use Rattle.rules.specs.Call.{between, authority_of}
+use Rattle.rules.specs.Call.{authority_of, gate_of}
 use Rattle.rules.specs.Refusals.{is_open, unprotected, occupied, in_the_way, occupied_beside, rests_on, clashes}
 use Rattle.rules.specs.Refusals.{overlaps, own}
 use Rattle.rules.specs.Effects.{granted, with_site, with_authority, is_with, continued_with, continued, effect}
@@ -48,9 +48,9 @@ placed_there b r F t on =
 
 -- ---- what the conditions 11, 12 and 13 tell of an authority n that is about to be in force
 
-module _ (b : Board) (r : Reckoning.Reckoning) (F : Follows b r) (n : ℕ) (l : live b n ≡ true) where
+module _ (b : Board) (r : Reckoning.Reckoning) (F : Follows b r) (n : AuthorityNo) (l : live b n ≡ true) where
   abbrev x : Reckoned
-  x = r.authority n
+  x = r.authority n.0
 
   abbrev a : Authority
   a = authority b n
@@ -59,8 +59,8 @@ module _ (b : Board) (r : Reckoning.Reckoning) (F : Follows b r) (n : ℕ) (l : 
   h = here b r F n l
 
   -- 13: another in force shares a portion only if n rests on the agreement of its officer; it came into force earlier
-  new_apart : (old : ℕ) → overlaps b old a ≡ false → (m p : ℕ) → (m ≡ n → ⊥) → (m ≡ old → ⊥) → Forced r.authority m
-      → In (r.authority m) p → In x p → Agreed (r.authority m) m (as_forced (suc r.grants) x)
+  new_apart : (old : AuthorityNo) → overlaps b old a ≡ false → (m p : ℕ) → (m ≡ n.0 → ⊥) → (m ≡ old.0 → ⊥)
+      → Forced r.authority m → In (r.authority m) p → In x p → Agreed (r.authority m) m (as_forced (suc r.grants) x)
   unfolding overlaps clashes rests_on
   new_apart old fails m p ne nold f im ip =
       let (o, mo, e, k) = held_there b r F m f in
@@ -68,7 +68,8 @@ module _ (b : Board) (r : Reckoning.Reckoning) (F : Follows b r) (n : ℕ) (l : 
       let c1 : is_in_force o ≡ true = sym k.force ∙ f in
       let c2 : not (eqb (authority_no o) (authority_no a)) ≡ true =
       ap not (ne_eqb (authority_no o) (authority_no a) (λ q. ne (sym e ∙ q ∙ (authority_there b n l).1))) in
-      let c3 : not (eqb (authority_no o) old) ≡ true = ap not (ne_eqb (authority_no o) old (λ q. nold (sym e ∙ q))) in
+      let c3 : not (eqb (authority_no o) old.0) ≡ true =
+      ap not (ne_eqb (authority_no o) old.0 (λ q. nold (sym e ∙ q))) in
       let c4 : shares a.limits o.limits ≡ true =
       shares_some a.limits o.limits p (omega (arith, k.last)) (h.from p ip) (k.from p im) in
       let c5 : not ((is_twa a.kind || is_toa a.kind) && eqb (authority_no o) a.agreed.0) ≡ false =
@@ -95,15 +96,15 @@ module _ (b : Board) (r : Reckoning.Reckoning) (F : Follows b r) (n : ℕ) (l : 
       )
 
   -- 11: each gate that n needs is blocked
-  new_protected : unprotected b a ≡ false → (g : ℕ) → g < length b.gates → In x (gate_at b.gates g).to
-      → (In x (gate_at b.gates g).from → ⊥) → r.blocked g ≡ true
+  new_protected : unprotected b a ≡ false → (g : ℕ) → g < length b.gates → In x (gate_at b.gates (gate_of g)).to
+      → (In x (gate_at b.gates (gate_of g)).from → ⊥) → r.blocked g ≡ true
   unfolding unprotected is_open needs
   new_protected fails g lt i o =
       let none : is_open b a.limits g ≡ false =
       any_no (is_open b a.limits) (below (length b.gates)) fails g (below_has (length b.gates) g lt) in
-      let to : has (gate_at b.gates g).to a.limits ≡ true = h.from _ i in
-      let from : not (has (gate_at b.gates g).from a.limits) ≡ true =
-      ⊎_elim (λ q. absurd (o (h.into _ q))) (λ q. ap not q) (truth (has (gate_at b.gates g).from a.limits)) in
+      let to : has (gate_at b.gates (gate_of g)).to a.limits ≡ true = h.from _ i in
+      let from : not (has (gate_at b.gates (gate_of g)).from a.limits) ≡ true =
+      ⊎_elim (λ q. absurd (o (h.into _ q))) (λ q. ap not q) (truth (has (gate_at b.gates (gate_of g)).from a.limits)) in
       let on : not (has g b.blocks) ≡ false = search (shown, none) in
       F.blocks g (search (told, on))
 
@@ -131,16 +132,16 @@ module _ (b : Board) (r : Reckoning.Reckoning) (F : Follows b r) (S : Safe b.gat
   unfolding effect reckon own condition_at
   keeps_grant n officer ok = record {
     follows =
-        follows_amended b r F n.0 granted x (suc r.grants) (λ a. refl) refl
+        follows_amended b r F n granted x (suc r.grants) (λ a. refl) refl
         (held_granted (suc r.grants) (r.authority n.0))
-        (λ a m e. F.rests a m) (there b r F n.0 l) (omega arith) (λ f. omega arith);
+        (λ a m e. F.rests a m) (there b r F n l) (omega arith) (λ f. omega arith);
     safe =
         safe_put b.gates r n.0 x
         (record {
-          apart = λ m p ne f im ip. inl (new_apart b r F n.0 l 0 (ok.ok 13) m p ne (nonzero m f) f im ip);
-          piloted = λ t on e i. absurd ((new_untouched b r F n.0 l (ok.ok 12) t on).0 i);
-          untouched = λ t on k v. new_untouched b r F n.0 l (ok.ok 12) t on;
-          protected = new_protected b r F n.0 l (ok.ok 11);
+          apart = λ m p ne f im ip. inl (new_apart b r F n l (authority_of 0) (ok.ok 13) m p ne (nonzero m f) f im ip);
+          piloted = λ t on e i. absurd ((new_untouched b r F n l (ok.ok 12) t on).0 i);
+          untouched = λ t on k v. new_untouched b r F n l (ok.ok 12) t on;
+          protected = new_protected b r F n l (ok.ok 11);
         })
         S (suc r.grants);
   }
@@ -148,8 +149,8 @@ module _ (b : Board) (r : Reckoning.Reckoning) (F : Follows b r) (S : Safe b.gat
       x : Reckoned
       x = as_forced (suc r.grants) (r.authority n.0)
 
-      l : live b n.0 ≡ true
-      l = is_live b r F n.0 (ok.ok 5)
+      l : live b n ≡ true
+      l = is_live b r F n (ok.ok 5)
 
       nonzero : (m : ℕ) → Forced r.authority m → m ≡ 0 → ⊥
       nonzero m f z =
@@ -163,63 +164,64 @@ module _ (b : Board) (r : Reckoning.Reckoning) (F : Follows b r) (S : Safe b.gat
   unfolding effect reckon own condition_at
   keeps_reoccupy n officer ok = record {
     follows =
-        follows_amended b r F n.0 (with_site true) (as_sited true (r.authority n.0)) r.grants (λ a. refl) refl
-        (held_sited (r.authority n.0) true) (λ a m e. F.rests a m) (there b r F n.0 l) (omega arith) (F.since n.0);
+        follows_amended b r F n (with_site true) (as_sited true (r.authority n.0)) r.grants (λ a. refl) refl
+        (held_sited (r.authority n.0) true) (λ a m e. F.rests a m) (there b r F n l) (omega arith) (F.since n.0);
     safe =
         safe_put b.gates r n.0 (as_sited true (r.authority n.0))
         (record {
           apart = λ m p ne f im ip. S.apart m n.0 p ne f force im ip;
           piloted = λ t on e i. S.piloted t n.0 on force e i;
-          untouched = λ t on k v. new_untouched b r F n.0 l (free k) t on;
+          untouched = λ t on k v. new_untouched b r F n l (free k) t on;
           protected = λ g lt i o. S.protected n.0 g force lt i o;
         })
         S r.grants;
   }
     where
-      l : live b n.0 ≡ true
-      l = is_live b r F n.0 (ok.ok 5)
+      l : live b n ≡ true
+      l = is_live b r F n (ok.ok 5)
 
       force : Forced r.authority n.0
-      force = (here b r F n.0 l).force ∙ not-false (is_in_force (authority b n.0)) (ok.ok 6)
+      force = (here b r F n l).force ∙ not-false (is_in_force (authority b n)) (ok.ok 6)
 
-      free : (r.authority n.0).kind ≡ Twa → occupied b (authority b n.0) ≡ false
+      free : (r.authority n.0).kind ≡ Twa → occupied b (authority b n) ≡ false
       free k =
-          and_no_r (is_twa (authority b n.0).kind) (occupied b (authority b n.0)) (ok.ok 12)
-          (ap is_twa (sym (here b r F n.0 l).kind ∙ k))
+          and_no_r (is_twa (authority b n).kind) (occupied b (authority b n)) (ok.ok 12)
+          (ap is_twa (sym (here b r F n l).kind ∙ k))
 
 -- ---- CONTINUE
 
-module _ (b : Board) (r : Reckoning.Reckoning) (F : Follows b r) (old : ℕ) (new : AuthorityNo) (lo : live b old ≡ true)
-    (ln : live b new.0 ≡ true) where
+module _ (b : Board) (r : Reckoning.Reckoning) (F : Follows b r) (old new : AuthorityNo) (lo : live b old ≡ true)
+    (ln : live b new ≡ true) where
   abbrev y : Reckoned
   y = r.authority new.0
 
   abbrev c : Authority
-  c = authority b new.0
+  c = authority b new
 
   hc : Held r.requests y c
-  hc = here b r F new.0 ln
+  hc = here b r F new ln
 
   -- the trains handed over
   abbrev handed : ℕ → Position
-  handed t = as_continued old new.0 y (r.train t)
+  handed t = as_continued old.0 new.0 y (r.train t)
 
-  nonzero_old : old ≡ 0 → ⊥
+  nonzero_old : old.0 ≡ 0 → ⊥
   nonzero_old z =
       let e = (authority_there b old lo).1 in
       omega (arith, (here b r F old lo).positive)
 
   -- a train that isn't reckoned under old stays under what it was; one that is, with its head in the limits, comes
   -- under new
-  not_handed : (t : ℕ) → ((r.train t).under ≡ old → ⊥) → (handed t).under ≡ (r.train t).under
+  not_handed : (t : ℕ) → ((r.train t).under ≡ old.0 → ⊥) → (handed t).under ≡ (r.train t).under
   not_handed t z =
       ap (λ (k : Bool). cond (k && between y.first y.last (r.train t).head) new.0 (r.train t).under)
-      (ne_eqb (r.train t).under old z)
+      (ne_eqb (r.train t).under old.0 z)
 
-  is_handed : (t : ℕ) → (r.train t).under ≡ old → In y (r.train t).head → (handed t).under ≡ new.0
+  is_handed : (t : ℕ) → (r.train t).under ≡ old.0 → In y (r.train t).head → (handed t).under ≡ new.0
   is_handed t e i =
       ap (λ (k : Bool). cond k new.0 (r.train t).under)
-      (and_from (eqb (r.train t).under old) (between y.first y.last (r.train t).head) (eq-eqb (r.train t).under old e)
+      (and_from (eqb (r.train t).under old.0) (between y.first y.last (r.train t).head)
+      (eq-eqb (r.train t).under old.0 e)
       (and_from (leb y.first (r.train t).head) (leb (r.train t).head y.last) (le-leb y.first (r.train t).head i.0)
       (le-leb (r.train t).head y.last i.1)))
 
@@ -232,13 +234,13 @@ module _ (b : Board) (r : Reckoning.Reckoning) (F : Follows b r) (old : ℕ) (ne
       (o, q, any_no (in_the_way old c) b.trains fails o m)
 
   beside_piloted : occupied_beside b old c ≡ false → (t : ℕ) → (r.train t).on_board ≡ true → In y (r.train t).head
-      → (r.train t).under ≡ old
+      → (r.train t).under ≡ old.0
   unfolding in_the_way touches
   beside_piloted fails t on i =
       let (o, q, none) = beside fails t on in
       let at : has o.head c.limits ≡ true = hc.from o.head (subst (In y) q.head i) in
-      let d : (is_twa c.kind || not (eqb o.with.0 old) || not (has o.head c.limits)) ≡ false = search (shown, none) in
-      let w : o.with.0 ≡ old = search (told, eqb-true, d) in
+      let d : (is_twa c.kind || not (eqb o.with.0 old.0) || not (has o.head c.limits)) ≡ false = search (shown, none) in
+      let w : o.with.0 ≡ old.0 = search (told, eqb-true, d) in
       q.under (λ z. nonzero_old (sym w ∙ z)) ∙ w
 
   beside_untouched : occupied_beside b old c ≡ false → (t : ℕ) → (r.train t).on_board ≡ true → y.kind ≡ Twa
@@ -247,14 +249,15 @@ module _ (b : Board) (r : Reckoning.Reckoning) (F : Follows b r) (old : ℕ) (ne
   beside_untouched fails t on k =
       let (o, q, none) = beside fails t on in
       let twa : is_twa c.kind ≡ true = ap is_twa (sym hc.kind ∙ k) in
-      let d : (is_twa c.kind || not (eqb o.with.0 old) || not (has o.head c.limits)) ≡ true = search shown in
+      let d : (is_twa c.kind || not (eqb o.with.0 old.0) || not (has o.head c.limits)) ≡ true = search shown in
       let never : (has o.head c.limits || has o.rear c.limits) ≡ true → ⊥ = λ z. clash d (search (shown, none)) in (
         (λ i. never (or_left (has o.head c.limits) (has o.rear c.limits) (hc.from o.head (subst (In y) q.head i)))),
         (λ i. never (or_right (has o.head c.limits) (has o.rear c.limits) (hc.from o.rear (subst (In y) q.rear i)))),
       )
 
   -- a train that was with old, and one that was not
-  placed_handed : (t : Train) → Placed (r.train (train_no t)) t → t.with.0 ≡ old → (z : Bool) → has t.head c.limits ≡ z
+  placed_handed : (t : Train) → Placed (r.train (train_no t)) t → t.with.0 ≡ old.0 → (z : Bool)
+      → has t.head c.limits ≡ z
       → Placed (handed (train_no t)) (with_authority (cond z new (authority_of 0)) t)
   placed_handed t q w true e = record {
     on_board = q.on_board;
@@ -267,7 +270,7 @@ module _ (b : Board) (r : Reckoning.Reckoning) (F : Follows b r) (old : ℕ) (ne
   placed_handed t q w false e =
       record { on_board = q.on_board; head = q.head; rear = q.rear; under = λ z. absurd (z refl) }
 
-  placed_other : (t : Train) → Placed (r.train (train_no t)) t → (t.with.0 ≡ old → ⊥) → Placed (handed (train_no t)) t
+  placed_other : (t : Train) → Placed (r.train (train_no t)) t → (t.with.0 ≡ old.0 → ⊥) → Placed (handed (train_no t)) t
   placed_other t q w = record {
     on_board = q.on_board;
     head = q.head;
@@ -282,19 +285,19 @@ module _ (b : Board) (r : Reckoning.Reckoning) (F : Follows b r) (S : Safe b.gat
   unfolding effect reckon own condition_at
   keeps_continue old new officer_old officer_new ok = record {
     follows =
-        follows_amended b1 r1 follows_old new.0 granted (as_forced (suc r.grants) (r1.authority new.0)) (suc r.grants)
+        follows_amended b1 r1 follows_old new granted (as_forced (suc r.grants) (r1.authority new.0)) (suc r.grants)
         (λ a. refl) refl
         (held_granted (suc r.grants) (r1.authority new.0)) (λ a m e. follows_old.rests a m)
-        (there_ended old.0 b.authorities new.0 distinct (there b r F new.0 ln)) (omega arith) (λ f. omega arith);
+        (there_ended old b.authorities new.0 distinct (there b r F new ln)) (omega arith) (λ f. omega arith);
     safe =
         safe_put b.gates r1 new.0 (as_forced (suc r.grants) (r1.authority new.0))
         (subst (λ (u : Reckoned). New b.gates r1 new.0 (as_forced (suc r.grants) u)) (sym new_is)
         (record {
           apart = apart_new;
           piloted =
-              λ t on e i. is_handed b r F old.0 new lo ln t (beside_piloted b r F old.0 new lo ln (ok.ok 12) t on i) i;
-          untouched = λ t on k v. beside_untouched b r F old.0 new lo ln (ok.ok 12) t on k;
-          protected = new_protected b r F new.0 ln (ok.ok 11);
+              λ t on e i. is_handed b r F old new lo ln t (beside_piloted b r F old new lo ln (ok.ok 12) t on i) i;
+          untouched = λ t on k v. beside_untouched b r F old new lo ln (ok.ok 12) t on k;
+          protected = new_protected b r F new ln (ok.ok 11);
         }))
         safe_old (suc r.grants);
   }
@@ -305,11 +308,11 @@ module _ (b : Board) (r : Reckoning.Reckoning) (F : Follows b r) (S : Safe b.gat
       z : Reckoned
       z = as_ended (r.authority old.0)
 
-      lo : live b old.0 ≡ true
-      lo = is_live b r F old.0 (search (told, ok.ok 5))
+      lo : live b old ≡ true
+      lo = is_live b r F old (search (told, ok.ok 5))
 
-      ln : live b new.0 ≡ true
-      ln = is_live b r F new.0 (search (told, ok.ok 5))
+      ln : live b new ≡ true
+      ln = is_live b r F new (search (told, ok.ok 5))
 
       T1 : ℕ → Position
       T1 t = as_continued old.0 new.0 (r.authority new.0) (r.train t)
@@ -317,33 +320,33 @@ module _ (b : Board) (r : Reckoning.Reckoning) (F : Follows b r) (S : Safe b.gat
       -- old ended, and the trains handed over
       b1 : Board
       b1 =
-          with_trains (continued old.0 new (authority b new.0).limits b.trains)
-          (with_authorities (ended old.0 b.authorities) b)
+          with_trains (continued old new (authority b new).limits b.trains)
+          (with_authorities (ended old b.authorities) b)
 
       r1 : Reckoning.Reckoning
-      r1 = Reckoning.with_trains T1 (Reckoning.with_authorities (put old.0 z r.authority) r)
+      r1 = Reckoning.with_positions T1 (Reckoning.with_reckoned (put old.0 z r.authority) r)
 
       distinct : new.0 ≡ old.0 → ⊥
       distinct e =
-          let forced-old : is_in_force (authority b old.0) ≡ true = search (told, ok.ok 6) in
-          let pending-new : is_in_force (authority b new.0) ≡ false = search (told, ok.ok 6) in
-          clash forced-old (subst (λ (k : ℕ). is_in_force (authority b k) ≡ false) e pending-new)
+          let forced-old : is_in_force (authority b old) ≡ true = search (told, ok.ok 6) in
+          let pending-new : is_in_force (authority b new) ≡ false = search (told, ok.ok 6) in
+          clash forced-old (subst (λ (k : ℕ). is_in_force (authority b (authority_of k)) ≡ false) e pending-new)
 
       new_is : put old.0 z r.authority new.0 ≡ r.authority new.0
       new_is = put_other old.0 z r.authority new.0 distinct
 
       follows_old : Follows b1 r1
       follows_old =
-          follows_trains (with_authorities (ended old.0 b.authorities) b)
-          (Reckoning.with_authorities (put old.0 z r.authority) r)
-          (follows_ended b r F old.0)
-          (continued old.0 new (authority b new.0).limits b.trains) T1
-          (change_each (λ (t : Train). Placed (T1 (train_no t)) t) (is_with old.0)
-          (continued_with new (authority b new.0).limits) b.trains
-          (λ t m e. placed_other b r F old.0 new lo ln t (F.placed t m) (eqb-false t.with.0 old.0 e))
-          (λ t m e. placed_handed b r F old.0 new lo ln t (F.placed t m) (eqb-true t.with.0 old.0 e)
-          (has t.head (authority b new.0).limits) refl))
-          (λ t on. taken_change train_no (is_with old.0) (continued_with new (authority b new.0).limits)
+          follows_trains (with_authorities (ended old b.authorities) b)
+          (Reckoning.with_reckoned (put old.0 z r.authority) r)
+          (follows_ended b r F old)
+          (continued old new (authority b new).limits b.trains) T1
+          (change_each (λ (t : Train). Placed (T1 (train_no t)) t) (is_with old)
+          (continued_with new (authority b new).limits) b.trains
+          (λ t m e. placed_other b r F old new lo ln t (F.placed t m) (eqb-false t.with.0 old.0 e))
+          (λ t m e. placed_handed b r F old new lo ln t (F.placed t m) (eqb-true t.with.0 old.0 e)
+          (has t.head (authority b new).limits) refl))
+          (λ t on. taken_change train_no (is_with old) (continued_with new (authority b new).limits)
           (λ t. refl) b.trains t (F.runs t on))
 
       -- what holds of every authority but old, old being ended
@@ -353,7 +356,7 @@ module _ (b : Board) (r : Reckoning.Reckoning) (F : Follows b r) (S : Safe b.gat
           put_all (λ (m : ℕ) (u : Reckoned). u.is_in_force ≡ true → P m u) old.0 z r.authority
           (λ f. absurd (false≢true f)) k
 
-      safe_ended : Safe b.gates (Reckoning.with_authorities (put old.0 z r.authority) r)
+      safe_ended : Safe b.gates (Reckoning.with_reckoned (put old.0 z r.authority) r)
       safe_ended = safe_quieter b.gates r S r.requests old.0 z (λ f. absurd (false≢true f))
 
       safe_old : Safe b.gates r1
@@ -362,7 +365,7 @@ module _ (b : Board) (r : Reckoning.Reckoning) (F : Follows b r) (S : Safe b.gat
         piloted =
             λ t m on f.
             but_old (λ (m : ℕ) (u : Reckoned). exclusive u.kind ≡ true → In u (r.train t).head → (T1 t).under ≡ m)
-            (λ m ne f e i. not_handed b r F old.0 new lo ln t (λ k. ne (sym (S.piloted t m on f e i) ∙ k))
+            (λ m ne f e i. not_handed b r F old new lo ln t (λ k. ne (sym (S.piloted t m on f e i) ∙ k))
             ∙ S.piloted t m on f e i) m f;
         untouched = λ t m on f. safe_ended.untouched t m on f;
         protected = safe_ended.protected;
@@ -373,4 +376,4 @@ module _ (b : Board) (r : Reckoning.Reckoning) (F : Follows b r) (S : Safe b.gat
           → Agreed (put old.0 z r.authority m) m x ⊎ Agreed x new.0 (put old.0 z r.authority m)
       apart_new m p ne f =
           but_old (λ (m : ℕ) (u : Reckoned). (m ≡ new.0 → ⊥) → In u p → In x p → Agreed u m x ⊎ Agreed x new.0 u)
-          (λ m nold f ne im ip. inl (new_apart b r F new.0 ln old.0 (ok.ok 13) m p ne nold f im ip)) m f ne
+          (λ m nold f ne im ip. inl (new_apart b r F new ln old (ok.ok 13) m p ne nold f im ip)) m f ne

@@ -10,7 +10,8 @@ use Rattle.rules.specs.declared.kind.Kind.{Kind}
 use Rattle.rules.specs.declared.kind.Kind.TheVariants.{Twa}
 use Rattle.rules.specs.declared.Gate.{Gate}
 use Rattle.rules.specs.Board.{gate_at, exclusive}
-use Rattle.rules.specs.Reckoning.{Reckoned, Position, Reckoning, start, put}
+use Rattle.rules.specs.Call.{gate_of}
+use Rattle.rules.specs.Reckoning.{Reckoned, Position, Reckoning, at_start, put}
 use Rattle.rules.specs.Claim.{In, Forced, Agreed, Apart, Piloted, Untouched, Protected, Safe}
 use Rattle.rules.proofs.Follows.{put_all, put_other, reckoned_as}
 
@@ -116,7 +117,8 @@ pub record New (gates : List Gate) (r : Reckoning) (n : ℕ) (x : Reckoned) : Ty
       → (r.train t).under ≡ n
   pub untouched : (t : ℕ) → (r.train t).on_board ≡ true → x.kind ≡ Twa → x.has_workers_on ≡ true
       → (In x (r.train t).head → ⊥) × (In x (r.train t).rear → ⊥)
-  pub protected : (g : ℕ) → g < length gates → In x (gate_at gates g).to → (In x (gate_at gates g).from → ⊥)
+  pub protected : (g : ℕ) → g < length gates → In x (gate_at gates (gate_of g)).to
+      → (In x (gate_at gates (gate_of g)).from → ⊥)
       → r.blocked g ≡ true
 
 module _ (gates : List Gate) (r : Reckoning) (n : ℕ) (x : Reckoned) (N : New gates r n x) (S : Safe gates r) where
@@ -166,14 +168,15 @@ module _ (gates : List Gate) (r : Reckoning) (n : ℕ) (x : Reckoned) (N : New g
         λ m g.
         put_all
         (λ (m : ℕ) (u : Reckoned).
-        u.is_in_force ≡ true → g < length gates → In u (gate_at gates g).to → (In u (gate_at gates g).from → ⊥)
+        u.is_in_force ≡ true → g < length gates → In u (gate_at gates (gate_of g)).to
+        → (In u (gate_at gates (gate_of g)).from → ⊥)
         → r.blocked g ≡ true)
         n x A (λ f. N.protected g) (λ m ne f. S.protected m g f) m;
   }
 
 -- ---- at the start
 
-pub safe_start : (gates : List Gate) → Safe gates start
+pub safe_start : (gates : List Gate) → Safe gates at_start
 safe_start gates = record {
   apart = λ m n p ne f. absurd (false≢true f);
   piloted = λ t n on. absurd (false≢true on);

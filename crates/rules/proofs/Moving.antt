@@ -130,12 +130,12 @@ module _ (b : Board) (r : Reckoning.Reckoning) (F : Follows b r) (S : Safe b.gat
           clash v (ap (λ (j : ℕ). (r.authority j).has_workers_on) (sym same) ∙ h.site fo ∙ off)
 
   -- the train that a call names
-  train_here : (t : ℕ) → on_board b t ≡ true → Placed (r.train t) (train b t)
+  train_here : (t : TrainNo) → on_board b t ≡ true → Placed (r.train t.0) (train b t)
   train_here t l =
       let w = train_there b t l in
       subst (λ (k : ℕ). Placed (r.train k) (train b t)) w.1 (F.placed (train b t) w.0)
 
-  train_taken : (t : ℕ) → on_board b t ≡ true → Taken train_no b.trains t
+  train_taken : (t : TrainNo) → on_board b t ≡ true → Taken train_no b.trains t.0
   train_taken t l = (train b t, (train_there b t l).0, (train_there b t l).1)
 
   module _ (s : Seven) where
@@ -146,7 +146,7 @@ module _ (b : Board) (r : Reckoning.Reckoning) (F : Follows b r) (S : Safe b.gat
     unfolding effect reckon own condition_at not_there on_board not_piloted
     keeps_move t g n officer ok = record {
       follows =
-          follows_trains b r F (cond (is_outside gate.from) (insert_by train_no fresh b.trains) (moved t.0 f b.trains))
+          follows_trains b r F (cond (is_outside gate.from) (insert_by train_no fresh b.trains) (moved t f b.trains))
           (put t.0 y r.train)
           (all_placed (is_outside gate.from) refl) (all_run (is_outside gate.from) refl);
       safe =
@@ -174,7 +174,7 @@ module _ (b : Board) (r : Reckoning.Reckoning) (F : Follows b r) (S : Safe b.gat
     }
       where
         gate : Gate
-        gate = gate_at b.gates g.0
+        gate = gate_at b.gates g
 
         y : Position
         y = as_moved gate n.0 (r.train t.0)
@@ -191,16 +191,16 @@ module _ (b : Board) (r : Reckoning.Reckoning) (F : Follows b r) (S : Safe b.gat
 
         -- 17
         stays : (z : Bool) → is_outside gate.from ≡ z
-            → cond z (on_board b t.0) (not (on_board b t.0 && is_at gate.from (train b t.0))) ≡ false
+            → cond z (on_board b t) (not (on_board b t && is_at gate.from (train b t))) ≡ false
         stays z e =
-            sym (ap (λ (z : Bool). cond z (on_board b t.0) (not (on_board b t.0 && is_at gate.from (train b t.0)))) e)
+            sym (ap (λ (z : Bool). cond z (on_board b t) (not (on_board b t && is_at gate.from (train b t)))) e)
             ∙ ok.ok 17
 
-        present : is_outside gate.from ≡ false → on_board b t.0 ≡ true
+        present : is_outside gate.from ≡ false → on_board b t ≡ true
         present e = let k = stays false e in search (told, k)
 
         others : is_outside gate.from ≡ true → (o : Train) → Member o b.trains → train_no o ≡ t.0 → ⊥
-        others e o m = eqb-false (train_no o) t.0 (any_no (is_train t.0) b.trains (stays true e) o m)
+        others e o m = eqb-false (train_no o) t.0 (any_no (is_train t) b.trains (stays true e) o m)
 
         rear_is : (z : Bool) → is_outside gate.from ≡ z → y.rear ≡ cond z gate.to (r.train t.0).rear
         rear_is z e = ap (λ (k : Bool). cond k gate.to (r.train t.0).rear) e
@@ -209,7 +209,7 @@ module _ (b : Board) (r : Reckoning.Reckoning) (F : Follows b r) (S : Safe b.gat
         new_placed e = record { on_board = refl; head = refl; rear = rear_is true e; under = λ z. refl }
 
         all_placed : (z : Bool) → is_outside gate.from ≡ z
-            → AllPlaced (put t.0 y r.train) (cond z (insert_by train_no fresh b.trains) (moved t.0 f b.trains))
+            → AllPlaced (put t.0 y r.train) (cond z (insert_by train_no fresh b.trains) (moved t f b.trains))
         all_placed true e o m =
             ⊎_elim
             (λ q.
@@ -219,7 +219,7 @@ module _ (b : Board) (r : Reckoning.Reckoning) (F : Follows b r) (S : Safe b.gat
             (F.placed o k))
             (inserted_from train_no fresh b.trains o m)
         all_placed false e o m =
-            placed_moved t.0 f (λ o. refl) y r.train b.trains
+            placed_moved t f (λ o. refl) y r.train b.trains
             (λ o h. record {
               on_board = refl;
               head = refl;
@@ -228,7 +228,7 @@ module _ (b : Board) (r : Reckoning.Reckoning) (F : Follows b r) (S : Safe b.gat
             }) F.placed o m
 
         all_run : (z : Bool) → is_outside gate.from ≡ z → (m : ℕ) → (put t.0 y r.train m).on_board ≡ true
-            → Taken train_no (cond z (insert_by train_no fresh b.trains) (moved t.0 f b.trains)) m
+            → Taken train_no (cond z (insert_by train_no fresh b.trains) (moved t f b.trains)) m
         all_run true e =
             put_all (λ (m : ℕ) (u : Position). u.on_board ≡ true
             → Taken train_no (insert_by train_no fresh b.trains) m) t.0 y r.train
@@ -236,9 +236,9 @@ module _ (b : Board) (r : Reckoning.Reckoning) (F : Follows b r) (S : Safe b.gat
             (λ m ne on. let (o, k, q) = F.runs m on in (o, inserted_into train_no fresh b.trains o (inr k), q))
         all_run false e =
             put_all (λ (m : ℕ) (u : Position). u.on_board ≡ true
-            → Taken train_no (moved t.0 f b.trains) m) t.0 y r.train
-            (λ on. taken_change train_no (is_train t.0) f (λ o. refl) b.trains t.0 (train_taken t.0 (present e)))
-            (λ m ne on. taken_change train_no (is_train t.0) f (λ o. refl) b.trains m (F.runs m on))
+            → Taken train_no (moved t f b.trains) m) t.0 y r.train
+            (λ on. taken_change train_no (is_train t) f (λ o. refl) b.trains t.0 (train_taken t (present e)))
+            (λ m ne on. taken_change train_no (is_train t) f (λ o. refl) b.trains m (F.runs m on))
 
         rear_clear : (m : ℕ) → Forced r.authority m → (r.authority m).kind ≡ Twa → (r.authority m).has_workers_on ≡ true
             → (z : Bool) → is_outside gate.from ≡ z
@@ -246,7 +246,7 @@ module _ (b : Board) (r : Reckoning.Reckoning) (F : Follows b r) (S : Safe b.gat
         rear_clear m fm k v true e i =
             w_clear m gate.to (ok.ok 14) fm k v (subst (In (r.authority m)) (rear_is true e) i)
         rear_clear m fm k v false e i =
-            (S.untouched t.0 m (train_here t.0 (present e)).on_board fm k v).1
+            (S.untouched t.0 m (train_here t (present e)).on_board fm k v).1
             (subst (In (r.authority m)) (rear_is false e) i)
 
     -- ---- PASSED
@@ -256,11 +256,11 @@ module _ (b : Board) (r : Reckoning.Reckoning) (F : Follows b r) (S : Safe b.gat
     keeps_passed t ok = record {
       follows =
           follows_trains b r F
-          (cond (is_outside (train b t.0).head) (gone t.0 b.trains) (moved t.0 with_rear_in b.trains))
+          (cond (is_outside (train b t).head) (gone t b.trains) (moved t with_rear_in b.trains))
           (put t.0 y r.train)
-          (all_placed (is_outside (train b t.0).head) refl) (all_run (is_outside (train b t.0).head) refl);
+          (all_placed (is_outside (train b t).head) refl) (all_run (is_outside (train b t).head) refl);
       safe =
-          safe_less b.gates (Reckoning.with_trains (put t.0 y r.train) r) r (λ m q. quiet_same (r.authority m) q)
+          safe_less b.gates (Reckoning.with_positions (put t.0 y r.train) r) r (λ m q. quiet_same (r.authority m) q)
           (put_all (λ (m : ℕ) (u : Position). u.on_board ≡ true → Smaller u (r.train m)) t.0 y r.train
           (λ on. record { on_board = q.on_board; head = refl; under = refl; rear = inr refl })
           (λ m ne on. small_same (r.train m) on))
@@ -270,22 +270,22 @@ module _ (b : Board) (r : Reckoning.Reckoning) (F : Follows b r) (S : Safe b.gat
         y : Position
         y = as_passed (r.train t.0)
 
-        l : on_board b t.0 ≡ true
-        l = not-false (on_board b t.0) (ok.ok 17)
+        l : on_board b t ≡ true
+        l = not-false (on_board b t) (ok.ok 17)
 
-        q : Placed (r.train t.0) (train b t.0)
-        q = train_here t.0 l
+        q : Placed (r.train t.0) (train b t)
+        q = train_here t l
 
-        on_is : (z : Bool) → is_outside (train b t.0).head ≡ z → y.on_board ≡ cond z false (r.train t.0).on_board
+        on_is : (z : Bool) → is_outside (train b t).head ≡ z → y.on_board ≡ cond z false (r.train t.0).on_board
         on_is z e = ap (λ (k : Bool). cond k false (r.train t.0).on_board) (ap is_outside q.head ∙ e)
 
-        all_placed : (z : Bool) → is_outside (train b t.0).head ≡ z
-            → AllPlaced (put t.0 y r.train) (cond z (gone t.0 b.trains) (moved t.0 with_rear_in b.trains))
+        all_placed : (z : Bool) → is_outside (train b t).head ≡ z
+            → AllPlaced (put t.0 y r.train) (cond z (gone t b.trains) (moved t with_rear_in b.trains))
         all_placed true e o m =
-            let k = gone_member t.0 b.trains o m in
+            let k = gone_member t b.trains o m in
             subst (λ (u : Position). Placed u o) (sym (put_other t.0 y r.train (train_no o) k.1)) (F.placed o k.0)
         all_placed false e o m =
-            placed_moved t.0 with_rear_in (λ o. refl) y r.train b.trains
+            placed_moved t with_rear_in (λ o. refl) y r.train b.trains
             (λ o h. record {
               on_board = on_is false e ∙ h.on_board;
               head = h.head;
@@ -293,13 +293,13 @@ module _ (b : Board) (r : Reckoning.Reckoning) (F : Follows b r) (S : Safe b.gat
               under = h.under;
             }) F.placed o m
 
-        all_run : (z : Bool) → is_outside (train b t.0).head ≡ z → (m : ℕ) → (put t.0 y r.train m).on_board ≡ true
-            → Taken train_no (cond z (gone t.0 b.trains) (moved t.0 with_rear_in b.trains)) m
+        all_run : (z : Bool) → is_outside (train b t).head ≡ z → (m : ℕ) → (put t.0 y r.train m).on_board ≡ true
+            → Taken train_no (cond z (gone t b.trains) (moved t with_rear_in b.trains)) m
         all_run true e =
-            put_all (λ (m : ℕ) (u : Position). u.on_board ≡ true → Taken train_no (gone t.0 b.trains) m) t.0 y r.train
-            (λ on. clash on (on_is true e)) (λ m ne on. runs_gone t.0 b.trains m ne (F.runs m on))
+            put_all (λ (m : ℕ) (u : Position). u.on_board ≡ true → Taken train_no (gone t b.trains) m) t.0 y r.train
+            (λ on. clash on (on_is true e)) (λ m ne on. runs_gone t b.trains m ne (F.runs m on))
         all_run false e =
             put_all (λ (m : ℕ) (u : Position). u.on_board ≡ true
-            → Taken train_no (moved t.0 with_rear_in b.trains) m) t.0 y r.train
-            (λ on. taken_change train_no (is_train t.0) with_rear_in (λ o. refl) b.trains t.0 (train_taken t.0 l))
-            (λ m ne on. taken_change train_no (is_train t.0) with_rear_in (λ o. refl) b.trains m (F.runs m on))
+            → Taken train_no (moved t with_rear_in b.trains) m) t.0 y r.train
+            (λ on. taken_change train_no (is_train t) with_rear_in (λ o. refl) b.trains t.0 (train_taken t l))
+            (λ m ne on. taken_change train_no (is_train t) with_rear_in (λ o. refl) b.trains m (F.runs m on))

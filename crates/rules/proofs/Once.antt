@@ -20,6 +20,7 @@ use Rattle.lists.proofs.Distinct.{changed-number}
 use Rattle.lists.proofs.Order.{ascending_distinct, ascending_append, ascending_keep, ascending_change, ascending_insert}
 use Rattle.lists.proofs.Order.{length_insert}
 use Rattle.sets.specs.Sets.{run}
+use Rattle.rules.specs.declared.TrainNo.{TrainNo}
 use Rattle.rules.specs.declared.Gate.{Gate}
 use Rattle.rules.specs.declared.Booking.{Booking}
 use Rattle.rules.specs.declared.Authority.{Authority}
@@ -35,7 +36,7 @@ use Rattle.rules.specs.Call.{minute_of, named}
 use Rattle.rules.specs.Refusals.{own, full, no_room, not_there, answer}
 use Rattle.rules.specs.Plan.{open_board}
 use Rattle.rules.specs.Effects.{requested, granted, with_site, with_officer, with_agreed, with_term, entered, with_head}
-use Rattle.rules.specs.Effects.{with_rear_in, is_with, continued_with, effect}
+use Rattle.rules.specs.Effects.{with_rear_in, is_with, continued_with, next_no, effect}
 use Rattle.rules.specs.Step.{Once, after, Made, final}
 use Rattle.rules.proofs.Answers.{condition_at}
 use Rattle.rules.proofs.Accepted.{Accepted, accepted}
@@ -92,14 +93,14 @@ module _ (b : Board) (o : Once b) where
 
 -- ---- one more
 
-once_request : (b : Board) (o : Once b) (a : Authority) → full b ≡ false → authority_no a ≡ suc b.last
+once_request : (b : Board) (o : Once b) (a : Authority) → full b ≡ false → authority_no a ≡ suc b.last.0
     → Once (record {
       portions = b.portions;
       gates = b.gates;
       bookings = b.bookings;
       day = b.day;
       time = b.time;
-      last = suc b.last;
+      last = next_no b;
       blocks = b.blocks;
       authorities = b.authorities ++ (a ∷ []);
       trains = b.trains;
@@ -107,7 +108,7 @@ once_request : (b : Board) (o : Once b) (a : Authority) → full b ≡ false →
 unfolding full
 once_request b o a room n =
     let few : length b.authorities < 32 = search (told, leb-false, room) in
-    let low : b.last < 9999 = search (told, leb-false, room) in
+    let few-numbers : b.last.0 < 9999 = search (told, leb-false, room) in
     record {
       authorities = ascending_append authority_no b.authorities a o.authorities (λ x m. omega (arith, o.allotted x m));
       trains = o.trains;
@@ -119,7 +120,7 @@ once_request b o a room n =
           (λ e. omega (arith, ap authority_no (Memᴰ.eq_of_singleton e))) (Memᴰ.append_cases b.authorities m);
     }
 
-once_move : (b : Board) (o : Once b) (t : Train) (n : ℕ) (f : Train → Train) (gate : Gate) → train_no t ≡ n
+once_move : (b : Board) (o : Once b) (t : Train) (n : TrainNo) (f : Train → Train) (gate : Gate) → train_no t ≡ n.0
     → ((x : Train) → train_no (f x) ≡ train_no x)
     → no_room b gate ≡ false → not_there b n gate ≡ false
     → (z : Bool) → is_outside gate.from ≡ z
@@ -133,7 +134,7 @@ once_move b o t n f gate e same room there true z =
     (omega (arith, length_insert train_no t b.trains))
 once_move b o t n f gate e same room there false z = once_change-trains b o (is_train n) f same
 
-once_passed : (b : Board) (o : Once b) (n : ℕ) (z : Bool)
+once_passed : (b : Board) (o : Once b) (n : TrainNo) (z : Bool)
     → Once (with_trains (cond z (gone n b.trains) (moved n with_rear_in b.trains)) b)
 once_passed b o n true = once_keep-trains b o (is_not_train n)
 once_passed b o n false = once_change-trains b o (is_train n) with_rear_in (λ t. refl)
@@ -155,35 +156,35 @@ once_beside b o blocks bookings = record {
 once_effect : (b : Board) (o : Once b) (s : Seven) (c : Option Call) → Accepted b s c → Once (effect b c)
 unfolding effect own condition_at
 once_effect b o s None k = o
-once_effect b o s (Some (Request kind first last officer)) k =
-    once_request b o (requested (suc b.last) kind (run first last) officer) (k.ok 9) refl
-once_effect b o s (Some (Withdraw n officer)) k = once_keep b o (is_not_authority n.0)
-once_effect b o s (Some (Agree toa twa officer)) k = once_change b o (is_authority twa.0) (with_agreed toa) (λ a. refl)
+once_effect b o s (Some (Request kind low high officer)) k =
+    once_request b o (requested (next_no b) kind (run low high) officer) (k.ok 9) refl
+once_effect b o s (Some (Withdraw n officer)) k = once_keep b o (is_not_authority n)
+once_effect b o s (Some (Agree toa twa officer)) k = once_change b o (is_authority twa) (with_agreed toa) (λ a. refl)
 once_effect b o s (Some (Block g)) k = once_beside b o _ b.bookings
 once_effect b o s (Some (Unblock g)) k = once_beside b o _ b.bookings
-once_effect b o s (Some (Grant n officer)) k = once_change b o (is_authority n.0) granted (λ a. refl)
-once_effect b o s (Some (Clear n officer)) k = once_change b o (is_authority n.0) (with_site false) (λ a. refl)
-once_effect b o s (Some (Reoccupy n officer)) k = once_change b o (is_authority n.0) (with_site true) (λ a. refl)
-once_effect b o s (Some (HandOver n out into)) k = once_change b o (is_authority n.0) (with_officer into) (λ a. refl)
+once_effect b o s (Some (Grant n officer)) k = once_change b o (is_authority n) granted (λ a. refl)
+once_effect b o s (Some (Clear n officer)) k = once_change b o (is_authority n) (with_site false) (λ a. refl)
+once_effect b o s (Some (Reoccupy n officer)) k = once_change b o (is_authority n) (with_site true) (λ a. refl)
+once_effect b o s (Some (HandOver n out into)) k = once_change b o (is_authority n) (with_officer into) (λ a. refl)
 once_effect b o s (Some (Fulfil n officer assurances)) k =
-    once_change-trains (with_authorities (ended n.0 b.authorities) b) (once_keep b o (is_not_authority n.0))
-    (is_with n.0) _ (λ t. refl)
+    once_change-trains (with_authorities (ended n b.authorities) b) (once_keep b o (is_not_authority n))
+    (is_with n) _ (λ t. refl)
 once_effect b o s (Some (Continue old new officer_old officer_new)) k =
-    let b1 : Board = with_authorities (ended old.0 b.authorities) b in
-    let b2 : Board = with_authorities (amended new.0 granted (ended old.0 b.authorities)) b in
+    let b1 : Board = with_authorities (ended old b.authorities) b in
+    let b2 : Board = with_authorities (amended new granted (ended old b.authorities)) b in
     once_change-trains b2
-    (once_change b1 (once_keep b o (is_not_authority old.0)) (is_authority new.0) granted (λ a. refl))
-    (is_with old.0)
-    (continued_with new (authority b new.0).limits) (λ t. refl)
+    (once_change b1 (once_keep b o (is_not_authority old)) (is_authority new) granted (λ a. refl))
+    (is_with old)
+    (continued_with new (authority b new).limits) (λ t. refl)
 once_effect b o s (Some (Move t g n officer)) k =
-    let gate : Gate = gate_at b.gates g.0 in
-    once_move b o (entered t gate.to n) t.0 (with_head gate.to n) gate refl (λ x. refl) (k.ok 9) (k.ok 17)
+    let gate : Gate = gate_at b.gates g in
+    once_move b o (entered t gate.to n) t (with_head gate.to n) gate refl (λ x. refl) (k.ok 9) (k.ok 17)
     (is_outside gate.from) refl
-once_effect b o s (Some (Passed t)) k = once_passed b o t.0 (is_outside (train b t.0).head)
-once_effect b o s (Some (Term n day time length)) k =
-    once_change b o (is_authority n.0) (with_term (minute_of day time) length) (λ a. refl)
+once_effect b o s (Some (Passed t)) k = once_passed b o t (is_outside (train b t).head)
+once_effect b o s (Some (Term n day time minutes)) k =
+    once_change b o (is_authority n) (with_term (minute_of day time) minutes) (λ a. refl)
 once_effect b o s (Some (Join twa toa officer distance)) k =
-    once_change b o (is_authority toa.0) (with_agreed twa) (λ a. refl)
+    once_change b o (is_authority toa) (with_agreed twa) (λ a. refl)
 once_effect b o s (Some (BookOut g paper)) k = once_beside b o b.blocks _
 once_effect b o s (Some (BookIn g paper certified new)) k = once_beside b o b.blocks _
 

@@ -66,7 +66,7 @@ refused_plan text e = (rw e, rw e)
 closed_refuses : (s : Seven) (c : Option Call) → Accepted closed s c → ⊥
 unfolding closed opened own condition_at not_live live on_board
 closed_refuses s None k = k.ranges
-closed_refuses s (Some (Request kind first last officer)) k = omega (arith, k.ranges)
+closed_refuses s (Some (Request kind low high officer)) k = omega (arith, k.ranges)
 closed_refuses s (Some (Withdraw n officer)) k = false≢true (sym (k.ok 5))
 closed_refuses s (Some (Agree toa twa officer)) k = false≢true (sym (k.ok 5))
 closed_refuses s (Some (Block g)) k = omega (arith, k.ranges)
@@ -79,7 +79,7 @@ closed_refuses s (Some (Fulfil n officer assurances)) k = false≢true (sym (k.o
 closed_refuses s (Some (Continue old new officer_old officer_new)) k = false≢true (sym (k.ok 5))
 closed_refuses s (Some (Move t g n officer)) k = omega (arith, k.ranges)
 closed_refuses s (Some (Passed t)) k = false≢true (sym (k.ok 17))
-closed_refuses s (Some (Term n day time length)) k = false≢true (sym (k.ok 5))
+closed_refuses s (Some (Term n day time minutes)) k = false≢true (sym (k.ok 5))
 closed_refuses s (Some (Join twa toa officer distance)) k = false≢true (sym (k.ok 5))
 closed_refuses s (Some (BookOut g paper)) k = omega (arith, k.ranges.0)
 closed_refuses s (Some (BookIn g paper certified new)) k = omega (arith, k.ranges.0)

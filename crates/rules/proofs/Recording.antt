@@ -34,8 +34,8 @@ use Rattle.rules.specs.Board.{Board, gate_at, is_lpa, is_toa, is_twa, is_in_forc
 use Rattle.rules.specs.Board.{train_no, live, authority, needs, with_authorities, amended, ended}
 use Rattle.rules.specs.Refusals.{not_live, not_to_agree, not_to_join, still_needed, in_force_needs, own}
 use Rattle.rules.specs.Effects.{requested, booked_out, booked_in, with_site, with_officer, with_agreed, with_term}
-use Rattle.rules.specs.Effects.{with_authority, is_with, freed, effect}
-use Rattle.rules.specs.Call.{authority_of, minute_of}
+use Rattle.rules.specs.Effects.{with_authority, is_with, freed, next_no, effect}
+use Rattle.rules.specs.Call.{authority_of, gate_of, minute_of}
 use Rattle.rules.specs.Reckoning as Reckoning
 use Rattle.rules.specs.Reckoning.{Reckoned, agreement, put, as_requested, as_ended, as_sited, as_agreed, as_joined}
 use Rattle.rules.specs.Reckoning.{reckon}
@@ -70,15 +70,15 @@ pub record Keeps (b : Board) (r : Reckoning.Reckoning) (c : Option Call) : Type 
 module _ (b : Board) (r : Reckoning.Reckoning) (F : Follows b r) where
   -- ---- what is known of the authority that a call names, and of one that is reckoned in force
 
-  pub here : (n : ℕ) → live b n ≡ true → Held r.requests (r.authority n) (authority b n)
+  pub here : (n : AuthorityNo) → live b n ≡ true → Held r.requests (r.authority n.0) (authority b n)
   here n l =
       let w = authority_there b n l in
       subst (λ (k : ℕ). Held r.requests (r.authority k) (authority b n)) w.1 (F.held (authority b n) w.0)
 
-  pub there : (n : ℕ) → live b n ≡ true → Taken authority_no b.authorities n
+  pub there : (n : AuthorityNo) → live b n ≡ true → Taken authority_no b.authorities n.0
   there n l = (authority b n, (authority_there b n l).0, (authority_there b n l).1)
 
-  pub is_live : (n : ℕ) → not_live b n ≡ false → live b n ≡ true
+  pub is_live : (n : AuthorityNo) → not_live b n ≡ false → live b n ≡ true
   unfolding not_live
   is_live n h = not-false (live b n) h
 
@@ -89,7 +89,7 @@ module _ (b : Board) (r : Reckoning.Reckoning) (F : Follows b r) where
       (a, m, e, subst (λ (k : ℕ). Held r.requests (r.authority k) a) e (F.held a m))
 
   -- a pending authority isn't reckoned in force
-  pub pending : (n : ℕ) → live b n ≡ true → is_in_force (authority b n) ≡ false → Forced r.authority n → ⊥
+  pub pending : (n : AuthorityNo) → live b n ≡ true → is_in_force (authority b n) ≡ false → Forced r.authority n.0 → ⊥
   pending n l e f = true≢false (sym f ∙ (here n l).force ∙ e)
 
 -- whose agreement a TWA, a TOA and an LPA rest on, and one with which none was recorded
@@ -138,10 +138,10 @@ held_sited x on a h =
 module _ (b : Board) (r : Reckoning.Reckoning) (F : Follows b r) (S : Safe b.gates r) (s : Seven) where
   -- ---- REQUEST
 
-  pub keeps_request : (kind : Kind) (first last officer : ℕ) → Accepted b s (Some (Request kind first last officer))
-      → Keeps b r (Some (Request kind first last officer))
+  pub keeps_request : (kind : Kind) (low high officer : ℕ) → Accepted b s (Some (Request kind low high officer))
+      → Keeps b r (Some (Request kind low high officer))
   unfolding effect reckon
-  keeps_request kind first last officer ok = record {
+  keeps_request kind low high officer ok = record {
     follows =
         record {
           requests = ap suc F.requests;
@@ -174,10 +174,10 @@ module _ (b : Board) (r : Reckoning.Reckoning) (F : Follows b r) (S : Safe b.gat
       n = suc r.requests
 
       x : Reckoned
-      x = as_requested kind first last (r.authority n)
+      x = as_requested kind low high (r.authority n)
 
       fresh : Authority
-      fresh = requested (suc b.last) kind (run first last) officer
+      fresh = requested (next_no b) kind (run low high) officer
 
       unused : Forced r.authority n → ⊥
       unused f =
@@ -194,8 +194,8 @@ module _ (b : Board) (r : Reckoning.Reckoning) (F : Follows b r) (S : Safe b.gat
         positive = omega arith;
         allotted = omega (arith, F.requests);
         kind = refl;
-        into = λ p e. in_run first last p e;
-        from = λ p i. run_in first last p i.0 i.1 (omega (arith, ok.ranges, F.portions));
+        into = λ p e. in_run low high p e;
+        from = λ p i. run_in low high p i.0 i.1 (omega (arith, ok.ranges, F.portions));
         first = ok.ranges.0;
         last = omega (arith, ok.ranges, F.portions);
         force = ⊎_elim (λ f. absurd (unused f)) (λ e. e) (truth (r.authority n).is_in_force);
@@ -205,7 +205,7 @@ module _ (b : Board) (r : Reckoning.Reckoning) (F : Follows b r) (S : Safe b.gat
 
       is_new : (a : Authority) → a ≡ fresh → Held n (put n x r.authority (authority_no a)) a
       is_new a e =
-          let at : put n x r.authority (suc b.last) ≡ x =
+          let at : put n x r.authority (suc b.last.0) ≡ x =
           ap (put n x r.authority) (ap suc F.requests) ∙ put_same n x r.authority in
           subst (λ (o : Authority). Held n (put n x r.authority (authority_no o)) o) (sym e)
           (subst (λ (y : Reckoned). Held n y fresh) (sym at) new_held)
@@ -245,12 +245,12 @@ module _ (b : Board) (r : Reckoning.Reckoning) (F : Follows b r) (S : Safe b.gat
         record {
           requests = F.requests;
           portions = F.portions;
-          held = λ a m. F.held a (ended_member n.0 b.authorities a m).0;
-          rests = λ a m. F.rests a (ended_member n.0 b.authorities a m).0;
+          held = λ a m. F.held a (ended_member n b.authorities a m).0;
+          rests = λ a m. F.rests a (ended_member n b.authorities a m).0;
           since = F.since;
           there =
-              λ m f. there_ended n.0 b.authorities m
-              (λ e. pending b r F n.0 (is_live b r F n.0 (ok.ok 5)) (ok.ok 6) (subst (Forced r.authority) e f))
+              λ m f. there_ended n b.authorities m
+              (λ e. pending b r F n (is_live b r F n (ok.ok 5)) (ok.ok 6) (subst (Forced r.authority) e f))
               (F.there m f);
           placed = F.placed;
           runs = F.runs;
@@ -266,18 +266,18 @@ module _ (b : Board) (r : Reckoning.Reckoning) (F : Follows b r) (S : Safe b.gat
   unfolding effect reckon
   keeps_hand_over n out into = record {
     follows =
-        follows_unreckoned b r F n.0 (with_officer into) (λ a. refl) (λ a. refl) (λ a. refl)
+        follows_unreckoned b r F n (with_officer into) (λ a. refl) (λ a. refl) (λ a. refl)
         (λ a x h. held_anew x x a (with_officer into a) h refl refl refl refl refl refl h.force h.site h.agreement);
     safe = S;
   }
 
-  pub keeps_term : (n : AuthorityNo) (day time length : ℕ) → Keeps b r (Some (Term n day time length))
+  pub keeps_term : (n : AuthorityNo) (day time minutes : ℕ) → Keeps b r (Some (Term n day time minutes))
   unfolding effect reckon
-  keeps_term n day time length = record {
+  keeps_term n day time minutes = record {
     follows =
-        follows_unreckoned b r F n.0 (with_term (minute_of day time) length) (λ a. refl) (λ a. refl) (λ a. refl)
+        follows_unreckoned b r F n (with_term (minute_of day time) minutes) (λ a. refl) (λ a. refl) (λ a. refl)
         (λ a x h. held_anew x x a
-        (with_term (minute_of day time) length a) h refl refl refl refl refl refl h.force h.site h.agreement);
+        (with_term (minute_of day time) minutes a) h refl refl refl refl refl refl h.force h.site h.agreement);
     safe = S;
   }
 
@@ -298,53 +298,53 @@ module _ (b : Board) (r : Reckoning.Reckoning) (F : Follows b r) (S : Safe b.gat
 
   -- `taker`, pending, records the agreement of the officer of `by`, which is of the kind that can give it, and is
   -- reckoned as x: as it was, but for the agreement
-  module _ (by taker : AuthorityNo) (x : Reckoned) (live-by : live b by.0 ≡ true) (live-taker : live b taker.0 ≡ true)
-      (waits : is_in_force (authority b taker.0) ≡ false)
-      (gives : (authority b by.0).kind ≡ giver (authority b taker.0).kind) where
+  module _ (by taker : AuthorityNo) (x : Reckoned) (live-by : live b by ≡ true) (live-taker : live b taker ≡ true)
+      (waits : is_in_force (authority b taker) ≡ false)
+      (gives : (authority b by).kind ≡ giver (authority b taker).kind) where
     abbrev y : Reckoned
     y = r.authority taker.0
 
     -- an authority with the taker's number has its kind
-    taker-kind : (a : Authority) → y.kind ≡ a.kind → a.kind ≡ (authority b taker.0).kind
-    taker-kind a k = sym k ∙ (here b r F taker.0 live-taker).kind
+    taker-kind : (a : Authority) → y.kind ≡ a.kind → a.kind ≡ (authority b taker).kind
+    taker-kind a k = sym k ∙ (here b r F taker live-taker).kind
 
     pub follows_recorded : x.kind ≡ y.kind → x.first ≡ y.first → x.last ≡ y.last → x.is_in_force ≡ y.is_in_force
         → x.has_workers_on ≡ y.has_workers_on
         → agreement x ≡ by.0
-        → Follows (with_authorities (amended taker.0 (with_agreed by) b.authorities) b)
+        → Follows (with_authorities (amended taker (with_agreed by) b.authorities) b)
         (reckoned_as r r.requests r.grants taker.0 x)
     follows_recorded ke fe le fo wo ag =
-        follows_amended b r F taker.0 (with_agreed by) x r.grants (λ a. refl) ke
+        follows_amended b r F taker (with_agreed by) x r.grants (λ a. refl) ke
         (λ a h.
         held_anew y x a (with_agreed by a) h refl refl refl ke fe le (fo ∙ h.force) (λ e. wo ∙ h.site e) ag)
         (λ a m e z. (
-          (here b r F by.0 live-by).kind ∙ gives
+          (here b r F by live-by).kind ∙ gives
               ∙ ap giver (sym (taker-kind a (ap (λ (i : ℕ). (r.authority i).kind) (sym e) ∙ (F.held a m).kind))),
-          subst (λ (k : ℕ). k ≤ r.requests) (authority_there b by.0 live-by).1 (here b r F by.0 live-by).allotted,
+          subst (λ (k : ℕ). k ≤ r.requests) (authority_there b by live-by).1 (here b r F by live-by).allotted,
         ))
-        (there b r F taker.0 live-taker) (omega arith)
-        (λ f. absurd (pending b r F taker.0 live-taker waits (sym fo ∙ f)))
+        (there b r F taker live-taker) (omega arith)
+        (λ f. absurd (pending b r F taker live-taker waits (sym fo ∙ f)))
 
     pub safe_recorded : x.is_in_force ≡ y.is_in_force → Safe b.gates (reckoned_as r r.requests r.grants taker.0 x)
     safe_recorded fo =
         safe_quieter b.gates r S r.requests taker.0 x
-        (λ f. absurd (pending b r F taker.0 live-taker waits (sym fo ∙ f)))
+        (λ f. absurd (pending b r F taker live-taker waits (sym fo ∙ f)))
 
   pub keeps_agree : (toa twa : AuthorityNo) (officer : ℕ) → Accepted b s (Some (Agree toa twa officer))
       → Keeps b r (Some (Agree toa twa officer))
   unfolding effect reckon own condition_at not_to_agree
   keeps_agree toa twa officer ok =
       let x : Reckoned = as_agreed toa.0 (r.authority twa.0) in
-      let l1 : live b toa.0 ≡ true = is_live b r F toa.0 (search (told, ok.ok 5)) in
-      let l2 : live b twa.0 ≡ true = is_live b r F twa.0 (search (told, ok.ok 5)) in
-      let waits : is_in_force (authority b twa.0) ≡ false = search (told, ok.ok 6) in
-      let k1 : (authority b toa.0).kind ≡ Toa = toa_kind (authority b toa.0).kind (search (told, ok.ok 6)) in
-      let k2 : (authority b twa.0).kind ≡ Twa = twa_kind (authority b twa.0).kind (search (told, ok.ok 6)) in
-      let gives : (authority b toa.0).kind ≡ giver (authority b twa.0).kind = k1 ∙ ap giver (sym k2) in
+      let l1 : live b toa ≡ true = is_live b r F toa (search (told, ok.ok 5)) in
+      let l2 : live b twa ≡ true = is_live b r F twa (search (told, ok.ok 5)) in
+      let waits : is_in_force (authority b twa) ≡ false = search (told, ok.ok 6) in
+      let k1 : (authority b toa).kind ≡ Toa = toa_kind (authority b toa).kind (search (told, ok.ok 6)) in
+      let k2 : (authority b twa).kind ≡ Twa = twa_kind (authority b twa).kind (search (told, ok.ok 6)) in
+      let gives : (authority b toa).kind ≡ giver (authority b twa).kind = k1 ∙ ap giver (sym k2) in
       record {
         follows =
             follows_recorded toa twa x l1 l2 waits gives refl refl refl refl refl
-            (twa_agreement x ((here b r F twa.0 l2).kind ∙ k2));
+            (twa_agreement x ((here b r F twa l2).kind ∙ k2));
         safe = safe_recorded toa twa x l1 l2 waits gives refl;
       }
 
@@ -353,16 +353,16 @@ module _ (b : Board) (r : Reckoning.Reckoning) (F : Follows b r) (S : Safe b.gat
   unfolding effect reckon own condition_at not_to_join
   keeps_join twa toa officer distance ok =
       let x : Reckoned = as_joined twa.0 (r.authority toa.0) in
-      let l1 : live b twa.0 ≡ true = is_live b r F twa.0 (search (told, ok.ok 5)) in
-      let l2 : live b toa.0 ≡ true = is_live b r F toa.0 (search (told, ok.ok 5)) in
-      let waits : is_in_force (authority b toa.0) ≡ false = search (told, ok.ok 6) in
-      let k1 : (authority b twa.0).kind ≡ Twa = twa_kind (authority b twa.0).kind (search (told, ok.ok 6)) in
-      let k2 : (authority b toa.0).kind ≡ Toa = toa_kind (authority b toa.0).kind (search (told, ok.ok 6)) in
-      let gives : (authority b twa.0).kind ≡ giver (authority b toa.0).kind = k1 ∙ ap giver (sym k2) in
+      let l1 : live b twa ≡ true = is_live b r F twa (search (told, ok.ok 5)) in
+      let l2 : live b toa ≡ true = is_live b r F toa (search (told, ok.ok 5)) in
+      let waits : is_in_force (authority b toa) ≡ false = search (told, ok.ok 6) in
+      let k1 : (authority b twa).kind ≡ Twa = twa_kind (authority b twa).kind (search (told, ok.ok 6)) in
+      let k2 : (authority b toa).kind ≡ Toa = toa_kind (authority b toa).kind (search (told, ok.ok 6)) in
+      let gives : (authority b twa).kind ≡ giver (authority b toa).kind = k1 ∙ ap giver (sym k2) in
       record {
         follows =
             follows_recorded twa toa x l1 l2 waits gives refl refl refl refl refl
-            (toa_agreement x ((here b r F toa.0 l2).kind ∙ k2));
+            (toa_agreement x ((here b r F toa l2).kind ∙ k2));
         safe = safe_recorded twa toa x l1 l2 waits gives refl;
       }
 
@@ -373,8 +373,8 @@ module _ (b : Board) (r : Reckoning.Reckoning) (F : Follows b r) (S : Safe b.gat
   unfolding effect reckon own condition_at
   keeps_clear n officer ok = record {
     follows =
-        follows_amended b r F n.0 (with_site false) (as_sited false (r.authority n.0)) r.grants (λ a. refl) refl
-        (held_sited (r.authority n.0) false) (λ a m e. F.rests a m) (there b r F n.0 (is_live b r F n.0 (ok.ok 5)))
+        follows_amended b r F n (with_site false) (as_sited false (r.authority n.0)) r.grants (λ a. refl) refl
+        (held_sited (r.authority n.0) false) (λ a m e. F.rests a m) (there b r F n (is_live b r F n (ok.ok 5)))
         (omega arith) (F.since n.0);
     safe =
         safe_quieter b.gates r S r.requests n.0 (as_sited false (r.authority n.0))
@@ -394,14 +394,14 @@ module _ (b : Board) (r : Reckoning.Reckoning) (F : Follows b r) (S : Safe b.gat
   unfolding effect reckon
   keeps_fulfil n officer assurances = record {
     follows =
-        follows_trains (with_authorities (ended n.0 b.authorities) b)
-        (Reckoning.with_authorities (put n.0 (as_ended (r.authority n.0)) r.authority) r) (follows_ended b r F n.0)
-        (freed n.0 b.trains) r.train
-        (change_each (λ (t : Train). Placed (r.train (train_no t)) t) (is_with n.0)
+        follows_trains (with_authorities (ended n b.authorities) b)
+        (Reckoning.with_reckoned (put n.0 (as_ended (r.authority n.0)) r.authority) r) (follows_ended b r F n)
+        (freed n b.trains) r.train
+        (change_each (λ (t : Train). Placed (r.train (train_no t)) t) (is_with n)
         (with_authority (authority_of 0)) b.trains (λ t m e. F.placed t m)
         (λ t m e. let h = F.placed t m in
         record { on_board = h.on_board; head = h.head; rear = h.rear; under = λ z. absurd (z refl) }))
-        (λ t on. taken_change train_no (is_with n.0) (with_authority (authority_of 0)) (λ t. refl) b.trains t
+        (λ t on. taken_change train_no (is_with n) (with_authority (authority_of 0)) (λ t. refl) b.trains t
         (F.runs t on));
     safe = safe_quieter b.gates r S r.requests n.0 (as_ended (r.authority n.0)) (λ f. absurd (false≢true f));
   }
@@ -476,18 +476,18 @@ module _ (b : Board) (r : Reckoning.Reckoning) (F : Follows b r) (S : Safe b.gat
   }
     where
       gate : Gate
-      gate = gate_at b.gates g.0
+      gate = gate_at b.gates g
 
       -- 16: no authority in force needs the gate
-      unneeded : (n h : ℕ) → h ≡ g.0 → Forced r.authority n → In (r.authority n) (gate_at b.gates h).to
-          → (In (r.authority n) (gate_at b.gates h).from → ⊥) → ⊥
+      unneeded : (n h : ℕ) → h ≡ g.0 → Forced r.authority n → In (r.authority n) (gate_at b.gates (gate_of h)).to
+          → (In (r.authority n) (gate_at b.gates (gate_of h)).from → ⊥) → ⊥
       unneeded n h same f i o =
           let (a, m, e, k) = held_there b r F n f in
           let none : in_force_needs gate a ≡ false = any_no (in_force_needs gate) b.authorities (ok.ok 16) a m in
           let force : is_in_force a ≡ true = sym k.force ∙ f in
           let to : has gate.to a.limits ≡ true =
-          k.from gate.to (subst (λ (j : ℕ). In (r.authority n) (gate_at b.gates j).to) same i) in
+          k.from gate.to (subst (λ (j : ℕ). In (r.authority n) (gate_at b.gates (gate_of j)).to) same i) in
           let need : (has gate.to a.limits && not (has gate.from a.limits)) ≡ false = search (shown, none) in
           let from : not (has gate.from a.limits) ≡ false = search (shown, need) in
-          o (subst (λ (j : ℕ). In (r.authority n) (gate_at b.gates j).from) (sym same)
+          o (subst (λ (j : ℕ). In (r.authority n) (gate_at b.gates (gate_of j)).from) (sym same)
           (k.into gate.from (search (told, from))))

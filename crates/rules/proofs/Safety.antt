@@ -22,7 +22,7 @@ use Rattle.rules.specs.Refusals.{answer}
 use Rattle.rules.specs.Effects.{effect}
 use Rattle.rules.specs.Plan.{open_board}
 use Rattle.rules.specs.Step.{Made, after, trace, final}
-use Rattle.rules.specs.Reckoning.{Reckoning, start, reckon, reckoned}
+use Rattle.rules.specs.Reckoning.{Reckoning, at_start, reckon, reckoned}
 use Rattle.rules.specs.Claim.{Safe}
 use Rattle.rules.proofs.Accepted.{Accepted, accepted}
 use Rattle.rules.proofs.Opening.{fresh}
@@ -39,7 +39,7 @@ use Rattle.rules.proofs.Moving.{keeps_move, keeps_passed}
 keeps : (b : Board) (r : Reckoning) → Follows b r → Safe b.gates r → (s : Seven) (c : Option Call) → Accepted b s c
     → Keeps b r c
 keeps b r F S s None k = absurd k.ranges
-keeps b r F S s (Some (Request kind first last officer)) k = keeps_request b r F S s kind first last officer k
+keeps b r F S s (Some (Request kind low high officer)) k = keeps_request b r F S s kind low high officer k
 keeps b r F S s (Some (Withdraw n officer)) k = keeps_withdraw b r F S s n officer k
 keeps b r F S s (Some (Agree toa twa officer)) k = keeps_agree b r F S s toa twa officer k
 keeps b r F S s (Some (Block g)) k = keeps_block b r F S s g k
@@ -53,7 +53,7 @@ keeps b r F S s (Some (Continue old new officer_old officer_new)) k =
     keeps_continue b r F S s old new officer_old officer_new k
 keeps b r F S s (Some (Move t g n officer)) k = keeps_move b r F S s t g n officer k
 keeps b r F S s (Some (Passed t)) k = keeps_passed b r F S s t k
-keeps b r F S s (Some (Term n day time length)) k = keeps_term b r F S s n day time length
+keeps b r F S s (Some (Term n day time minutes)) k = keeps_term b r F S s n day time minutes
 keeps b r F S s (Some (Join twa toa officer distance)) k = keeps_join b r F S s twa toa officer distance k
 keeps b r F S s (Some (BookOut g paper)) k = keeps_book_out b r F S s g paper
 keeps b r F S s (Some (BookIn g paper certified new)) k = keeps_book_in b r F S s g paper certified new
@@ -62,7 +62,7 @@ keeps b r F S s (Some (BookIn g paper certified new)) k = keeps_book_in b r F S 
 pub gates_stay : (b : Board) (c : Option Call) → (effect b c).gates ≡ b.gates
 unfolding effect
 gates_stay b None = refl
-gates_stay b (Some (Request kind first last officer)) = refl
+gates_stay b (Some (Request kind low high officer)) = refl
 gates_stay b (Some (Withdraw n officer)) = refl
 gates_stay b (Some (Agree toa twa officer)) = refl
 gates_stay b (Some (Block g)) = refl
@@ -75,18 +75,18 @@ gates_stay b (Some (Fulfil n officer assurances)) = refl
 gates_stay b (Some (Continue old new officer_old officer_new)) = refl
 gates_stay b (Some (Move t g n officer)) = refl
 gates_stay b (Some (Passed t)) = refl
-gates_stay b (Some (Term n day time length)) = refl
+gates_stay b (Some (Term n day time minutes)) = refl
 gates_stay b (Some (Join twa toa officer distance)) = refl
 gates_stay b (Some (BookOut g paper)) = refl
 gates_stay b (Some (BookIn g paper certified new)) = refl
 
 -- ---- a list of calls
 
--- what is to be shown of a list of calls from a board and a reckoning: what is reckoned is safe, and the board after
--- the list follows it
-pub record Holds (gates : List Gate) (last : Board) (r : Reckoning) : Type 0 where
+-- what is to be shown of a list of calls from a board and a reckoning: what is reckoned is safe, and the board b
+-- after the list follows it
+pub record Holds (gates : List Gate) (b : Board) (r : Reckoning) : Type 0 where
   pub safe : Safe gates r
-  pub follows : Follows last r
+  pub follows : Follows b r
 
 list_step : (b : Board) (r : Reckoning) (m : Made) (ms : List Made)
     → ((b' : Board) (r' : Reckoning) → Follows b' r' → Safe b'.gates r'
@@ -112,7 +112,7 @@ list_holds [] b r F S = record { safe = S; follows = F }
 list_holds (m ∷ ms) b r F S = list_step b r m ms (list_holds ms) F S (eqb (answer b m.seven m.room) 0) refl
 
 opened_follows : (portions : ℕ) (gates : List Gate) → portions ≤ 64 → length gates ≤ 64
-    → Follows (opened portions gates) start
+    → Follows (opened portions gates) at_start
 unfolding opened
 opened_follows portions gates h few = record {
   requests = refl;
@@ -131,26 +131,26 @@ opened_follows portions gates h few = record {
 
 -- a freshly opened board of at most 64 portions and 64 gates
 pub opened_holds : (portions : ℕ) (gates : List Gate) → portions ≤ 64 → length gates ≤ 64 → (ms : List Made)
-    → Holds gates (final (opened portions gates) ms) (reckoned gates start (trace (opened portions gates) ms))
+    → Holds gates (final (opened portions gates) ms) (reckoned gates at_start (trace (opened portions gates) ms))
 unfolding opened
 opened_holds portions gates h few ms =
-    list_holds ms (opened portions gates) start (opened_follows portions gates h few) (safe_start gates)
+    list_holds ms (opened portions gates) at_start (opened_follows portions gates h few) (safe_start gates)
 
 text_holds : (text : List ℕ) (ms : List Made)
     → Holds (open_board text).gates (final (open_board text) ms)
-    (reckoned (open_board text).gates start (trace (open_board text) ms))
+    (reckoned (open_board text).gates at_start (trace (open_board text) ms))
 unfolding opened
 text_holds text ms =
     let o = fresh text in
-    subst (λ (b : Board). Holds b.gates (final b ms) (reckoned b.gates start (trace b ms))) (sym o.is_opened)
+    subst (λ (b : Board). Holds b.gates (final b ms) (reckoned b.gates at_start (trace b ms))) (sym o.is_opened)
     (opened_holds o.portions o.gates o.few_portions o.few_gates ms)
 
 -- THEOREM, demand 3: any plan text, a refused one too, and any list of calls; the answers are those of `trace`
 pub demand_3 : (text : List ℕ) (ms : List Made)
-    → Safe (open_board text).gates (reckoned (open_board text).gates start (trace (open_board text) ms))
+    → Safe (open_board text).gates (reckoned (open_board text).gates at_start (trace (open_board text) ms))
 demand_3 text ms = (text_holds text ms).safe
 
 -- and the board after the list follows what is reckoned: each live authority has the kind and the limits of its REQUEST
 pub list_follows : (text : List ℕ) (ms : List Made)
-    → Follows (final (open_board text) ms) (reckoned (open_board text).gates start (trace (open_board text) ms))
+    → Follows (final (open_board text) ms) (reckoned (open_board text).gates at_start (trace (open_board text) ms))
 list_follows text ms = (text_holds text ms).follows

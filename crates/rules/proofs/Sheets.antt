@@ -26,7 +26,7 @@ use Rattle.rules.specs.Board.{Board, no_authority, authority_no}
 use Rattle.rules.specs.Call.{authority_of, minute_of}
 use Rattle.rules.specs.Plan.{open_board}
 use Rattle.rules.specs.Step.{Made, trace, final}
-use Rattle.rules.specs.Reckoning.{Reckoned, start, agreement, reckoned}
+use Rattle.rules.specs.Reckoning.{Reckoned, at_start, agreement, reckoned}
 use Rattle.rules.specs.Sheet.{now_of, minutes_in_hand, authority_cells, authority_line, held_portions, total_cells}
 use Rattle.rules.specs.Sheet.{total_line, sheet_lines, page_of, sheet}
 use Rattle.rules.proofs.Follows.{Held}
@@ -40,16 +40,16 @@ held_ends : {requests : ℕ} (x : Reckoned) (a : Authority) → Held requests x 
     → (least a.limits ≡ x.first) × (greatest a.limits ≡ x.last)
 held_ends x a h = (
   least_is a.limits x.first (omega (arith, h.first, h.last)) (h.from x.first (omega (arith, h.first)))
-      (λ q below. ⊎_elim (λ e. absurd (omega (arith, h.into q e))) (λ e. e) (truth (has q a.limits))),
+      (λ q lower. ⊎_elim (λ e. absurd (omega (arith, h.into q e))) (λ e. e) (truth (has q a.limits))),
   greatest_is a.limits x.last h.last (h.from x.last (omega (arith, h.first)))
-      (λ q above low. ⊎_elim (λ e. absurd (omega (arith, h.into q e))) (λ e. e) (truth (has q a.limits))),
+      (λ q above most. ⊎_elim (λ e. absurd (omega (arith, h.into q e))) (λ e. e) (truth (has q a.limits))),
 )
 
 -- THEOREM: on a board opened from any plan text, after any list of calls, the least and the greatest portion of the
 -- limits of each live authority are the first and the last of its REQUEST, and its kind is the REQUEST's: read off the
 -- calls and answers alone
 pub first-last : (text : List ℕ) (ms : List Made) (a : Authority) → Member a (final (open_board text) ms).authorities
-    → let x = (reckoned (open_board text).gates start (trace (open_board text) ms)).authority (authority_no a) in
+    → let x = (reckoned (open_board text).gates at_start (trace (open_board text) ms)).authority (authority_no a) in
     (a.kind ≡ x.kind) × (least a.limits ≡ x.first) × (greatest a.limits ≡ x.last)
 first-last text ms a m =
     let h = (list_follows text ms).held a m in
@@ -92,7 +92,7 @@ lines_ascend b u i j l k = record {
 -- line is the number that its last AGREE or JOIN names, 0 for none: read off the calls and answers alone
 pub agreement_shown : (text : List ℕ) (ms : List Made) (now : ℕ) (a : Authority)
     → Member a (final (open_board text) ms).authorities
-    → let x = (reckoned (open_board text).gates start (trace (open_board text) ms)).authority (authority_no a) in
+    → let x = (reckoned (open_board text).gates at_start (trace (open_board text) ms)).authority (authority_no a) in
     get_or (authority_cells now a) 8 Empty ≡ Number (agreement x)
 unfolding authority_cells
 agreement_shown text ms now a m = ap Number (list_agreements text ms a m).number
@@ -109,7 +109,7 @@ last_night = record {
   bookings = [];
   day = 12;
   time = 555;
-  last = 9999;
+  last = authority_of 9999;
   blocks = 9223372036854775841;
   authorities =
       record {
@@ -121,7 +121,7 @@ last_night = record {
         workers_on = true;
         agreed = authority_of 0;
         start = minute_of 11 2200;
-        length = 420;
+        minutes = 420;
       }
       ∷ record {
         number = authority_of 3;
@@ -132,7 +132,7 @@ last_night = record {
         workers_on = true;
         agreed = authority_of 0;
         start = 0;
-        length = 0;
+        minutes = 0;
       }
       ∷ record {
         number = authority_of 4;
@@ -143,7 +143,7 @@ last_night = record {
         workers_on = false;
         agreed = authority_of 3;
         start = 0;
-        length = 0;
+        minutes = 0;
       }
       ∷ record {
         number = authority_of 9999;
@@ -154,7 +154,7 @@ last_night = record {
         workers_on = false;
         agreed = authority_of 0;
         start = 0;
-        length = 0;
+        minutes = 0;
       }
       ∷ [];
   trains = [];

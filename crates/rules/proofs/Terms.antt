@@ -49,34 +49,34 @@ days_changed test f xs same each =
 starts_effect : (b : Board) (s : Seven) (c : Option Call) → Accepted b s c → Starts b → Starts (effect b c)
 unfolding effect
 starts_effect b s None k S = S
-starts_effect b s (Some (Request kind first last officer)) k S =
+starts_effect b s (Some (Request kind low high officer)) k S =
     λ a m. ⊎_elim (S a) (λ e. subst InDays (sym (Memᴰ.eq_of_singleton e)) (omega arith))
     (Memᴰ.append_cases b.authorities m)
-starts_effect b s (Some (Withdraw n officer)) k S = λ a m. S a (kept (is_not_authority n.0) b.authorities a m).member
+starts_effect b s (Some (Withdraw n officer)) k S = λ a m. S a (kept (is_not_authority n) b.authorities a m).member
 starts_effect b s (Some (Agree toa twa officer)) k S =
-    days_changed (is_authority twa.0) (with_agreed toa) b.authorities (λ a. refl) S
+    days_changed (is_authority twa) (with_agreed toa) b.authorities (λ a. refl) S
 starts_effect b s (Some (Block g)) k S = S
 starts_effect b s (Some (Unblock g)) k S = S
-starts_effect b s (Some (Grant n officer)) k S = days_changed (is_authority n.0) granted b.authorities (λ a. refl) S
+starts_effect b s (Some (Grant n officer)) k S = days_changed (is_authority n) granted b.authorities (λ a. refl) S
 starts_effect b s (Some (Clear n officer)) k S =
-    days_changed (is_authority n.0) (with_site false) b.authorities (λ a. refl) S
+    days_changed (is_authority n) (with_site false) b.authorities (λ a. refl) S
 starts_effect b s (Some (Reoccupy n officer)) k S =
-    days_changed (is_authority n.0) (with_site true) b.authorities (λ a. refl) S
+    days_changed (is_authority n) (with_site true) b.authorities (λ a. refl) S
 starts_effect b s (Some (HandOver n out into)) k S =
-    days_changed (is_authority n.0) (with_officer into) b.authorities (λ a. refl) S
+    days_changed (is_authority n) (with_officer into) b.authorities (λ a. refl) S
 starts_effect b s (Some (Fulfil n officer assurances)) k S =
-    λ a m. S a (kept (is_not_authority n.0) b.authorities a m).member
+    λ a m. S a (kept (is_not_authority n) b.authorities a m).member
 starts_effect b s (Some (Continue old new officer_old officer_new)) k S =
-    days_changed (is_authority new.0) granted (ended old.0 b.authorities) (λ a. refl)
-    (λ a m. S a (kept (is_not_authority old.0) b.authorities a m).member)
+    days_changed (is_authority new) granted (ended old b.authorities) (λ a. refl)
+    (λ a m. S a (kept (is_not_authority old) b.authorities a m).member)
 starts_effect b s (Some (Move t g n officer)) k S = S
 starts_effect b s (Some (Passed t)) k S = S
 starts_effect b s (Some (BookOut g paper)) k S = S
 starts_effect b s (Some (BookIn g paper certified new)) k S = S
 starts_effect b s (Some (Join twa toa officer distance)) k S =
-    days_changed (is_authority toa.0) (with_agreed twa) b.authorities (λ a. refl) S
-starts_effect b s (Some (Term n day time length)) k S =
-    change_each InDays (is_authority n.0) (with_term (minute_of day time) length) b.authorities (λ x m e. S x m)
+    days_changed (is_authority toa) (with_agreed twa) b.authorities (λ a. refl) S
+starts_effect b s (Some (Term n day time minutes)) k S =
+    change_each InDays (is_authority n) (with_term (minute_of day time) minutes) b.authorities (λ x m e. S x m)
     (λ x m e. minute_lt day time k.ranges.0 k.ranges.1)
 
 -- THEOREM: every call keeps it, accepted or refused; a freshly opened board has it

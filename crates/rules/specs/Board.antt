@@ -3,6 +3,9 @@
 use Rattle.std.specs.Prelude.{ℕ, ◌≡◌, Bool, true, false, not, ◌&&◌, ◌||◌, List, [], ◌∷◌, length, replicate, get_or, eqb}
 use Rattle.lists.specs.Search.{any, first, keep, change}
 use Rattle.sets.specs.Sets.{has}
+use Rattle.rules.specs.declared.AuthorityNo.{AuthorityNo}
+use Rattle.rules.specs.declared.TrainNo.{TrainNo}
+use Rattle.rules.specs.declared.GateNo.{GateNo}
 use Rattle.rules.specs.declared.kind.Kind.{Kind}
 use Rattle.rules.specs.declared.kind.Kind.TheVariants.{Lpa, Toa, Twa}
 use Rattle.rules.specs.declared.Gate.{Gate}
@@ -23,7 +26,7 @@ pub record Board : Type 0 where
   pub bookings : List Booking
   pub day : ℕ
   pub time : ℕ
-  pub last : ℕ
+  pub last : AuthorityNo
   pub blocks : ℕ
   pub authorities : List Authority
   pub trains : List Train
@@ -55,7 +58,7 @@ opened portions gates = record {
   bookings = replicate (length gates) no_booking;
   day = 0;
   time = 0;
-  last = 0;
+  last = record { 0 = 0 };
   blocks = 0;
   authorities = [];
   trains = [];
@@ -88,21 +91,21 @@ no_authority = record {
   workers_on = false;
   agreed = record { 0 = 0 };
   start = 0;
-  length = 0;
+  minutes = 0;
 }
 
 abbrev pub no_train : Train
 no_train = record { number = record { 0 = 0 }; head = 0; rear = 0; with = record { 0 = 0 } }
 
 -- the gate with that number, and its booking
-abbrev pub gate_at : List Gate → ℕ → Gate
-gate_at gates g = get_or gates g no_gate
+abbrev pub gate_at : List Gate → GateNo → Gate
+gate_at gates g = get_or gates g.0 no_gate
 
-abbrev pub booking_at : List Booking → ℕ → Booking
-booking_at bookings g = get_or bookings g no_booking
+abbrev pub booking_at : List Booking → GateNo → Booking
+booking_at bookings g = get_or bookings g.0 no_booking
 
 -- the gate is booked out of use (02, order 6)
-unfoldable pub is_out : Board → ℕ → Bool
+unfoldable pub is_out : Board → GateNo → Bool
 is_out b g = not (eqb (booking_at b.bookings g).paper.0 0)
 
 -- "Kinds of gate: [..] 4 plain automatic signal."
@@ -111,7 +114,7 @@ is_plain gate = eqb gate.kind 4
 
 -- "Kinds 1 to 3 can be blocked, kind 4 can't."; 02, order 6: "A plain automatic signal may protect work while it is
 -- booked out of use. [..] "Can be blocked", and 10 at BLOCK, now follow the booking."
-unfoldable pub can_be_blocked : Board → ℕ → Bool
+unfoldable pub can_be_blocked : Board → GateNo → Bool
 can_be_blocked b g = not (is_plain (gate_at b.gates g)) || is_out b g
 
 -- ---- authorities and trains
@@ -149,9 +152,9 @@ is_in_force a = a.in_force
 abbrev pub has_workers_on : Authority → Bool
 has_workers_on a = a.workers_on
 
--- the authority has a term (02, order 1): one of 1 to 65535 minutes, so that the length 0 stands for none
+-- the authority has a term (02, order 1): one of 1 to 65535 minutes, so that 0 minutes stand for none
 abbrev pub has_term : Authority → Bool
-has_term a = not (eqb a.length 0)
+has_term a = not (eqb a.minutes 0)
 
 -- the number of an authority, and of a train
 abbrev pub authority_no : Authority → ℕ
@@ -160,24 +163,24 @@ authority_no a = a.number.0
 abbrev pub train_no : Train → ℕ
 train_no t = t.number.0
 
-abbrev pub is_authority : ℕ → Authority → Bool
-is_authority n a = eqb (authority_no a) n
+abbrev pub is_authority : AuthorityNo → Authority → Bool
+is_authority n a = eqb (authority_no a) n.0
 
-abbrev pub is_train : ℕ → Train → Bool
-is_train n t = eqb (train_no t) n
+abbrev pub is_train : TrainNo → Train → Bool
+is_train n t = eqb (train_no t) n.0
 
 -- an authority with that number is live, and which it is
-unfoldable pub live : Board → ℕ → Bool
+unfoldable pub live : Board → AuthorityNo → Bool
 live b n = any (is_authority n) b.authorities
 
-unfoldable pub authority : Board → ℕ → Authority
+unfoldable pub authority : Board → AuthorityNo → Authority
 authority b n = first (is_authority n) no_authority b.authorities
 
 -- a train with that number is on the board, and which it is
-unfoldable pub on_board : Board → ℕ → Bool
+unfoldable pub on_board : Board → TrainNo → Bool
 on_board b n = any (is_train n) b.trains
 
-unfoldable pub train : Board → ℕ → Train
+unfoldable pub train : Board → TrainNo → Train
 train b n = first (is_train n) no_train b.trains
 
 -- "It touches a portion that holds its head or rear; outside is no portion." Of a set of portions, and of one portion.
@@ -194,14 +197,14 @@ needs limits gate = has gate.to limits && not (has gate.from limits)
 -- ---- a board changed in one thing
 
 -- with these in the places that calls change; portions and gates are the plan's
-abbrev pub changed : Board → List Booking → ℕ → ℕ → ℕ → ℕ → List Authority → List Train → Board
-changed b bookings day time last blocks authorities trains = record {
+abbrev pub changed : Board → List Booking → ℕ → ℕ → AuthorityNo → ℕ → List Authority → List Train → Board
+changed b bookings day time n blocks authorities trains = record {
   portions = b.portions;
   gates = b.gates;
   bookings = bookings;
   day = day;
   time = time;
-  last = last;
+  last = n;
   blocks = blocks;
   authorities = authorities;
   trains = trains;
@@ -219,29 +222,29 @@ with_blocks blocks b = changed b b.bookings b.day b.time b.last blocks b.authori
 abbrev pub with_bookings : List Booking → Board → Board
 with_bookings bookings b = changed b bookings b.day b.time b.last b.blocks b.authorities b.trains
 
-abbrev pub with_last : ℕ → Board → Board
+abbrev pub with_last : AuthorityNo → Board → Board
 with_last n b = changed b b.bookings b.day b.time n b.blocks b.authorities b.trains
 
 abbrev pub with_stamp : ℕ → ℕ → Board → Board
 with_stamp day time b = changed b b.bookings day time b.last b.blocks b.authorities b.trains
 
 -- the authorities with n changed by f, and with n gone; the same for trains
-abbrev pub amended : ℕ → (Authority → Authority) → List Authority → List Authority
+abbrev pub amended : AuthorityNo → (Authority → Authority) → List Authority → List Authority
 amended n f xs = change (is_authority n) f xs
 
-abbrev pub is_not_authority : ℕ → Authority → Bool
+abbrev pub is_not_authority : AuthorityNo → Authority → Bool
 is_not_authority n a = not (is_authority n a)
 
-abbrev pub ended : ℕ → List Authority → List Authority
+abbrev pub ended : AuthorityNo → List Authority → List Authority
 ended n xs = keep (is_not_authority n) xs
 
-abbrev pub moved : ℕ → (Train → Train) → List Train → List Train
+abbrev pub moved : TrainNo → (Train → Train) → List Train → List Train
 moved n f ts = change (is_train n) f ts
 
-abbrev pub is_not_train : ℕ → Train → Bool
+abbrev pub is_not_train : TrainNo → Train → Bool
 is_not_train n t = not (is_train n t)
 
-abbrev pub gone : ℕ → List Train → List Train
+abbrev pub gone : TrainNo → List Train → List Train
 gone n ts = keep (is_not_train n) ts
 
 -- ---- 01's equality of registers
@@ -250,16 +253,16 @@ gone n ts = keep (is_not_train n) ts
 -- agreements are too, pending or in force, for TWAs and TOAs.", where 01 compared the TOA that a TWA has agreed, and
 -- order 4 the TWA that a TOA has joined, while pending
 pub record SameAuthority (x y : Authority) : Type 0 where
-  pub number : authority_no x ≡ authority_no y
+  pub number : x.number ≡ y.number
   pub kind : x.kind ≡ y.kind
   pub limits : x.limits ≡ y.limits
   pub officer : x.officer ≡ y.officer
   pub stage : is_in_force x ≡ is_in_force y
   pub site : has_workers_on x ≡ has_workers_on y
-  pub agreed : is_twa x.kind ≡ true → x.agreed.0 ≡ y.agreed.0
-  pub joined : is_toa x.kind ≡ true → x.agreed.0 ≡ y.agreed.0
+  pub agreed : is_twa x.kind ≡ true → x.agreed ≡ y.agreed
+  pub joined : is_toa x.kind ≡ true → x.agreed ≡ y.agreed
   pub start : x.start ≡ y.start
-  pub length : x.length ≡ y.length
+  pub minutes : x.minutes ≡ y.minutes
 
 -- the elements of two lists are alike, place for place
 abbrev pub InOrder : {A : Type 0} → (A → A → Type 0) → List A → List A → Type 0

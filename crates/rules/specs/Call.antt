@@ -3,6 +3,7 @@
 use Rattle.std.specs.Prelude.{ℕ, Option, Some, None, Result, Err, ◌+◌, ◌*◌, ◌/◌, ◌%◌, Bool, true, cond, not, ◌&&◌, List}
 use Rattle.std.specs.Prelude.{[], ◌∷◌, length, get_or, eqb, leb, ltb}
 use Rattle.std.specs.Option.{ok_or}
+use Rattle.sets.specs.Sets.{between}
 use Rattle.rules.specs.declared.AuthorityNo.{AuthorityNo}
 use Rattle.rules.specs.declared.TrainNo.{TrainNo}
 use Rattle.rules.specs.declared.GateNo.{GateNo}
@@ -20,9 +21,6 @@ use Rattle.rules.specs.declared.Field.{Field}
 use Rattle.rules.specs.declared.Form.{Form}
 
 -- ---- ranges
-
-abbrev pub between : ℕ → ℕ → ℕ → Bool
-between low high n = leb low n && leb n high
 
 -- "Day is 0 to 9999, time hhmm on the 24-hour clock."
 unfoldable pub is_day : ℕ → Bool
@@ -64,7 +62,7 @@ in_range P G Field.OfficerOrNone s value = leb value 999
 -- TERM (02, order 1): "start day, start time, length in minutes (1 to 65535)"
 in_range P G Field.Day s value = is_day value
 in_range P G Field.Time s value = is_time value
-in_range P G Field.Length s value = between 1 65535 value
+in_range P G Field.Minutes s value = between 1 65535 value
 -- JOIN (02, order 4): "distance in metres", any number; 24 speaks of it, and not 3
 in_range P G Field.Distance s value = true
 -- BOOK OUT and BOOK IN (02, order 6): "paper 1 to 9999", "certified 0 or 1"
@@ -100,7 +98,7 @@ pub record Entry : Type 0 where
   pub named : Seven → Option Call
 
 abbrev pub entry : Form → (Seven → Option Call) → Entry
-entry form named = record { form = form; named = named }
+entry f reading = record { form = f; named = reading }
 
 -- the calls in order: 1 to 13 of 01, 14 of 02's order 1, 15 of its order 4, 16 and 17 of its order 6
 unfoldable pub calls : List Entry
@@ -123,7 +121,7 @@ calls =
     ∷ entry (form Field.Train Field.Gate Field.AuthorityOrNone Field.OfficerOrNone)
     (λ s. Some (Move (train_of s.a) (gate_of s.b) (authority_of s.c) s.d))
     ∷ entry (form Field.Train Field.Unused Field.Unused Field.Unused) (λ s. Some (Passed (train_of s.a)))
-    ∷ entry (form Field.Authority Field.Day Field.Time Field.Length) (λ s. Some (Term (authority_of s.a) s.b s.c s.d))
+    ∷ entry (form Field.Authority Field.Day Field.Time Field.Minutes) (λ s. Some (Term (authority_of s.a) s.b s.c s.d))
     ∷ entry (form Field.Authority Field.Authority Field.Officer Field.Distance)
     (λ s. Some (Join (authority_of s.a) (authority_of s.b) s.c s.d))
     ∷ entry (form Field.Gate Field.Paper Field.Unused Field.Unused) (λ s. Some (BookOut (gate_of s.a) (paper_of s.b)))

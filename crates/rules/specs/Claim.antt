@@ -4,6 +4,7 @@ use Rattle.std.specs.Prelude.{ℕ, ◌≤◌, ◌<◌, ◌≡◌, ◌⊎◌, Boo
 use Rattle.rules.specs.declared.kind.Kind.TheVariants.{Toa, Twa}
 use Rattle.rules.specs.declared.Gate.{Gate}
 use Rattle.rules.specs.Board.{gate_at, exclusive}
+use Rattle.rules.specs.Call.{gate_of}
 use Rattle.rules.specs.Reckoning.{Reckoned, Position, Reckoning}
 
 -- the portion is in the limits: "a first and a last portion and all between". Outside, 99, is in none, since last is
@@ -49,7 +50,8 @@ Untouched A T =
 -- and whose "from" isn't
 abbrev pub Protected : List Gate → (ℕ → Reckoned) → (ℕ → Bool) → Type 0
 Protected gates A B =
-    (n g : ℕ) → Forced A n → g < length gates → In (A n) (gate_at gates g).to → (In (A n) (gate_at gates g).from → ⊥)
+    (n g : ℕ) → Forced A n → g < length gates → In (A n) (gate_at gates (gate_of g)).to
+    → (In (A n) (gate_at gates (gate_of g)).from → ⊥)
     → B g ≡ true
 
 pub record Safe (gates : List Gate) (r : Reckoning) : Type 0 where

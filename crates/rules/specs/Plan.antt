@@ -2,9 +2,9 @@
 use Rattle.std.specs.Prelude.{ℕ, zero, suc, ◌+◌, ◌*◌, Bool, true, cond, not, ◌&&◌, ◌||◌, List, [], ◌∷◌, length, take}
 use Rattle.std.specs.Prelude.{drop, get_or, eqb, leb, ltb}
 use Rattle.columns.specs.Reading.{Row, row_of}
+use Rattle.sets.specs.Sets.{between}
 use Rattle.rules.specs.declared.Gate.{Gate}
 use Rattle.rules.specs.Board.{Board, opened, closed, is_outside}
-use Rattle.rules.specs.Call.{between}
 
 -- "lines of three numbers, each right-justified in 6 columns behind blanks, no leading zeros, then a line feed: 19
 -- bytes"

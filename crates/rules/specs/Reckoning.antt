@@ -2,6 +2,7 @@
 -- authority trains stand, read off a list of calls and their answers in order (01, "The reckoning of demand 3"; 02,
 -- orders 4 and 7). Nothing here reads a register. Assumes nothing.
 use Rattle.std.specs.Prelude.{ℕ, suc, Bool, true, false, cond, ◌&&◌, List, [], ◌∷◌, eqb, Option, Some, None}
+use Rattle.sets.specs.Sets.{between}
 use Rattle.rules.specs.declared.kind.Kind.{Kind}
 use Rattle.rules.specs.declared.kind.Kind.TheVariants.{Lpa}
 use Rattle.rules.specs.declared.Gate.{Gate}
@@ -9,7 +10,7 @@ use Rattle.rules.specs.declared.Call.{Call}
 use Rattle.rules.specs.declared.Call.TheVariants.{Request, Withdraw, Agree, Block, Unblock, Grant, Clear, Reoccupy}
 use Rattle.rules.specs.declared.Call.TheVariants.{HandOver, Fulfil, Continue, Move, Passed, Term, Join, BookOut, BookIn}
 use Rattle.rules.specs.Board.{is_outside, gate_at, is_toa, is_twa}
-use Rattle.rules.specs.Call.{between, named}
+use Rattle.rules.specs.Call.{named}
 use Rattle.rules.specs.Step.{Answered}
 
 -- an authority: its kind and limits by its REQUEST, whether it is in force, its place among all that came into force
@@ -48,24 +49,24 @@ pub record Reckoning : Type 0 where
 
 -- each by its parts
 abbrev pub reckoned_as : Kind → ℕ → ℕ → Bool → ℕ → Bool → ℕ → ℕ → Reckoned
-reckoned_as kind first last is_in_force since has_workers_on agreed joined = record {
+reckoned_as kind low high in_force since workers_on toa twa = record {
   kind = kind;
-  first = first;
-  last = last;
-  is_in_force = is_in_force;
+  first = low;
+  last = high;
+  is_in_force = in_force;
   since = since;
-  has_workers_on = has_workers_on;
-  agreed = agreed;
-  joined = joined;
+  has_workers_on = workers_on;
+  agreed = toa;
+  joined = twa;
 }
 
 abbrev pub reckoning : ℕ → ℕ → (ℕ → Reckoned) → (ℕ → Position) → (ℕ → Bool) → Reckoning
-reckoning requests grants authority train blocked = record {
+reckoning requests grants A T B = record {
   requests = requests;
   grants = grants;
-  authority = authority;
-  train = train;
-  blocked = blocked;
+  authority = A;
+  train = T;
+  blocked = B;
 }
 
 -- "At the start there is no authority, train, agreement or block"
@@ -75,18 +76,18 @@ no_reckoned = reckoned_as Lpa 0 0 false 0 false 0 0
 abbrev pub no_position : Position
 no_position = record { on_board = false; head = 0; rear = 0; under = 0 }
 
-abbrev pub start : Reckoning
-start = reckoning 0 0 (λ n. no_reckoned) (λ t. no_position) (λ g. false)
+abbrev pub at_start : Reckoning
+at_start = reckoning 0 0 (λ n. no_reckoned) (λ t. no_position) (λ g. false)
 
 -- f with x at n
 unfoldable pub put : {X : Type 0} → ℕ → X → (ℕ → X) → ℕ → X
 put n x f m = cond (eqb m n) x (f m)
 
-abbrev pub with_authorities : (ℕ → Reckoned) → Reckoning → Reckoning
-with_authorities f r = reckoning r.requests r.grants f r.train r.blocked
+abbrev pub with_reckoned : (ℕ → Reckoned) → Reckoning → Reckoning
+with_reckoned f r = reckoning r.requests r.grants f r.train r.blocked
 
-abbrev pub with_trains : (ℕ → Position) → Reckoning → Reckoning
-with_trains f r = reckoning r.requests r.grants r.authority f r.blocked
+abbrev pub with_positions : (ℕ → Position) → Reckoning → Reckoning
+with_positions f r = reckoning r.requests r.grants r.authority f r.blocked
 
 abbrev pub with_blocked : (ℕ → Bool) → Reckoning → Reckoning
 with_blocked f r = reckoning r.requests r.grants r.authority r.train f
@@ -95,7 +96,7 @@ with_blocked f r = reckoning r.requests r.grants r.authority r.train f
 
 -- "The nth REQUEST gives authority n its kind and limits."
 abbrev pub as_requested : Kind → ℕ → ℕ → Reckoned → Reckoned
-as_requested kind first last x = reckoned_as kind first last x.is_in_force x.since x.has_workers_on x.agreed x.joined
+as_requested kind low high x = reckoned_as kind low high x.is_in_force x.since x.has_workers_on x.agreed x.joined
 
 -- "An authority is in force from its GRANT, or a CONTINUE as new, until its FULFIL, or a CONTINUE as old. In that time
 -- its workers are on"; of two, the one with the lower `since` came into force earlier
@@ -156,35 +157,35 @@ forced n r =
 
 unfoldable pub reckon : List Gate → Reckoning → Option Call → Reckoning
 reckon gates r None = r
-reckon gates r (Some (Request kind first last officer)) =
+reckon gates r (Some (Request kind low high officer)) =
     reckoning (suc r.requests) r.grants
-    (put (suc r.requests) (as_requested kind first last (r.authority (suc r.requests))) r.authority)
+    (put (suc r.requests) (as_requested kind low high (r.authority (suc r.requests))) r.authority)
     r.train r.blocked
 -- "WITHDRAW and HAND OVER change nothing here."
 reckon gates r (Some (Withdraw n officer)) = r
 reckon gates r (Some (HandOver n out into)) = r
 reckon gates r (Some (Agree toa twa officer)) =
-    with_authorities (put twa.0 (as_agreed toa.0 (r.authority twa.0)) r.authority) r
+    with_reckoned (put twa.0 (as_agreed toa.0 (r.authority twa.0)) r.authority) r
 -- "A gate is blocked if it has had a BLOCK and no UNBLOCK since."
 reckon gates r (Some (Block g)) = with_blocked (put g.0 true r.blocked) r
 reckon gates r (Some (Unblock g)) = with_blocked (put g.0 false r.blocked) r
 reckon gates r (Some (Grant n officer)) = forced n.0 r
-reckon gates r (Some (Clear n officer)) = with_authorities (put n.0 (as_sited false (r.authority n.0)) r.authority) r
-reckon gates r (Some (Reoccupy n officer)) = with_authorities (put n.0 (as_sited true (r.authority n.0)) r.authority) r
+reckon gates r (Some (Clear n officer)) = with_reckoned (put n.0 (as_sited false (r.authority n.0)) r.authority) r
+reckon gates r (Some (Reoccupy n officer)) = with_reckoned (put n.0 (as_sited true (r.authority n.0)) r.authority) r
 reckon gates r (Some (Fulfil n officer assurances)) =
-    with_authorities (put n.0 (as_ended (r.authority n.0)) r.authority) r
+    with_reckoned (put n.0 (as_ended (r.authority n.0)) r.authority) r
 reckon gates r (Some (Continue old new officer_old officer_new)) =
     forced new.0
-    (with_trains (λ t. as_continued old.0 new.0 (r.authority new.0) (r.train t))
-    (with_authorities (put old.0 (as_ended (r.authority old.0)) r.authority) r))
+    (with_positions (λ t. as_continued old.0 new.0 (r.authority new.0) (r.train t))
+    (with_reckoned (put old.0 (as_ended (r.authority old.0)) r.authority) r))
 reckon gates r (Some (Move t g n officer)) =
-    with_trains (put t.0 (as_moved (gate_at gates g.0) n.0 (r.train t.0)) r.train) r
-reckon gates r (Some (Passed t)) = with_trains (put t.0 (as_passed (r.train t.0)) r.train) r
+    with_positions (put t.0 (as_moved (gate_at gates g) n.0 (r.train t.0)) r.train) r
+reckon gates r (Some (Passed t)) = with_positions (put t.0 (as_passed (r.train t.0)) r.train) r
 -- TERM (02, order 1) changes nothing here: demand 3 speaks of what is in force, and a term is no part of that
-reckon gates r (Some (Term n day time length)) = r
+reckon gates r (Some (Term n day time minutes)) = r
 -- JOIN (02, order 4): of the TOA, as AGREE is of the TWA
 reckon gates r (Some (Join twa toa officer distance)) =
-    with_authorities (put toa.0 (as_joined twa.0 (r.authority toa.0)) r.authority) r
+    with_reckoned (put toa.0 (as_joined twa.0 (r.authority toa.0)) r.authority) r
 -- BOOK OUT and BOOK IN (02, order 6) change nothing here: "A gate is blocked if it has had a BLOCK and no UNBLOCK
 -- since.", whatever its booking
 reckon gates r (Some (BookOut g paper)) = r

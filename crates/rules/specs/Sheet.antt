@@ -27,7 +27,7 @@ now_of b = minute_of b.day b.time
 
 -- "Minutes in hand is start plus length, minus now, with a minus sign in overrun; blank where there is no term."
 unfoldable pub minutes_in_hand : ℕ → Authority → Cell
-minutes_in_hand now a = cond (has_term a) (difference (a.start + a.length) now) Empty
+minutes_in_hand now a = cond (has_term a) (difference (a.start + a.minutes) now) Empty
 
 -- "number, kind, first, last, officer, stage (1 pending, 2 in force), site (1 on, 2 clear), minutes in hand": first and
 -- last are the least and the greatest portion of the limits. Order 7: "Officers taking over a joint site want to know
@@ -85,7 +85,7 @@ sheet_lines b = map (authority_line (now_of b)) b.authorities ++ (total_line b �
 -- the lines, one behind the other
 unfoldable pub page_of : List (List ℕ) → List ℕ
 page_of [] = []
-page_of (line ∷ lines) = line ++ page_of lines
+page_of (l ∷ ls) = l ++ page_of ls
 
 unfoldable pub sheet : Board → List ℕ
 sheet b = page_of (sheet_lines b)

@@ -1,5 +1,5 @@
 -- One call as a whole, a list of calls, and the whole results of the functions `open` and `call`. Assumes nothing.
-use Rattle.std.specs.Prelude.{ℕ, suc, ◌*◌, ◌≤◌, ◌<◌, ◌≡◌, cond, ◌&&◌, length, eqb, IsErr}
+use Rattle.std.specs.Prelude.{ℕ, ◌*◌, ◌≤◌, ◌<◌, ◌≡◌, cond, ◌&&◌, length, eqb, IsErr}
 use mathlib.Core.List.{List, [], ◌∷◌, Memᴰ}
 use Rattle.lists.specs.Order.{Ascending}
 use Rattle.rules.specs.declared.Authority.{Authority}
@@ -10,7 +10,7 @@ use Rattle.rules.specs.declared.Called.{Called}
 use Rattle.rules.specs.Board.{Board, board_of, with_stamp, authority_no, train_no}
 use Rattle.rules.specs.Call.{named}
 use Rattle.rules.specs.Refusals.{answer}
-use Rattle.rules.specs.Effects.{effect}
+use Rattle.rules.specs.Effects.{effect, next_no}
 use Rattle.rules.specs.Plan.{open_board, open_answer}
 use Rattle.rules.specs.Journal.{line_after}
 use Rattle.rules.specs.Answer.{answer_no, number_no, is_numbered}
@@ -23,7 +23,7 @@ after b s room = cond (eqb (answer b s room) 0) (with_stamp s.day s.time (effect
 
 -- the number allotted by REQUEST, else 0; "A refused call returns authority number 0."
 unfoldable pub allotted : Board → Seven → ℕ → ℕ
-allotted b s room = cond (eqb (answer b s room) 0 && eqb s.call 1) (suc b.last) 0
+allotted b s room = cond (eqb (answer b s room) 0 && eqb s.call 1) (next_no b).0 0
 
 -- ---- a list of calls
 
@@ -58,8 +58,8 @@ pub record Once (b : Board) : Type 0 where
   pub trains : Ascending train_no b.trains
   pub live : length b.authorities ≤ 32
   pub running : length b.trains ≤ 32
-  pub last : b.last ≤ 9999
-  pub allotted : (a : Authority) → Memᴰ a b.authorities → (1 ≤ authority_no a) × (authority_no a ≤ b.last)
+  pub last : b.last.0 ≤ 9999
+  pub allotted : (a : Authority) → Memᴰ a b.authorities → (1 ≤ authority_no a) × (authority_no a ≤ b.last.0)
 
 -- a register's portions and gates fit a set, and its lists are within what they can hold
 pub record Bounds (r : Register) : Type 0 where

@@ -55,7 +55,7 @@ pub enum Field {
     OfficerOrNone,
     Day,
     Time,
-    Length,
+    Minutes,
     Distance,
     Paper,
     Certified,
@@ -139,7 +139,7 @@ pub enum Call {
         authority: AuthorityNo,
         day: u16,
         time: u16,
-        length: u16,
+        minutes: u16,
     },
     Join {
         twa: AuthorityNo,
@@ -181,7 +181,7 @@ pub struct Booking {
 
 // A live authority. The limits are a set of portions (crate sets); agreed is the authority whose officer's
 // agreement it rests on, a TWA's TOA by AGREE and a TOA's TWA by JOIN, or 0; start is the minute in which its term
-// starts and length the term's minutes, both 0 where it has none.
+// starts and minutes its length, both 0 where it has none.
 #[derive(Clone, Copy, Debug, Default, PartialEq, Eq)]
 pub struct Authority {
     pub number: AuthorityNo,
@@ -192,7 +192,7 @@ pub struct Authority {
     pub workers_on: bool,
     pub agreed: AuthorityNo,
     pub start: u32,
-    pub length: u16,
+    pub minutes: u16,
 }
 
 // A train on the board: its head and rear portion, and the authority it is with, or 0. The head may be outside, 99.
@@ -216,7 +216,7 @@ pub struct Register {
     pub bookings: ArrayVec<Booking, 64>,
     pub day: u16,
     pub time: u16,
-    pub last: u16,
+    pub last: AuthorityNo,
     pub blocks: u64,
     pub authorities: ArrayVec<Authority, 32>,
     pub trains: ArrayVec<Train, 32>,

@@ -58,7 +58,7 @@ greatest_most set = first-most 64 64 64 (is_member set) (le_refl 64) (le_refl 64
 pub least-run : (f l : ℕ) → f ≤ l → l < 64 → least (run f l) ≡ f
 least-run f l h k =
     least_is (run f l) f (omega arith) (run_in f l f (le_refl f) h (omega arith))
-    (λ q below. run_out f l q (λ a b. omega arith))
+    (λ q lower. run_out f l q (λ a b. omega arith))
 
 -- and l the greatest
 pub greatest-run : (f l : ℕ) → f ≤ l → l < 64 → greatest (run f l) ≡ l

@@ -13,12 +13,12 @@ unfoldable pub set_of : ℕ → (ℕ → Bool) → ℕ
 set_of zero test = 0
 set_of (suc n) test = cond (test n) (2 ^ n) 0 + set_of n test
 
--- the run from first to last: both, and all between; no number where last is below first
+-- the run from low to high: both, and all between; no number where high is below low
 abbrev pub between : ℕ → ℕ → ℕ → Bool
-between first last p = leb first p && leb p last
+between low high p = leb low p && leb p high
 
 unfoldable pub run : ℕ → ℕ → ℕ
-run first last = set_of 64 (between first last)
+run low high = set_of 64 (between low high)
 
 -- "all portions up to n": "0 to n and no other" (02, order 3)
 unfoldable pub up_to : ℕ → ℕ

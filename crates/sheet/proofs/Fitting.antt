@@ -58,37 +58,37 @@ pick_in true x y h l = h
 pick_in false x y h l = l
 
 -- the minutes in hand of a term that starts within the days, from their length and from what is left of them
-pub minutes_none : (now : ℕ) (a : Authority) → a.length ≡ 0
+pub minutes_none : (now : ℕ) (a : Authority) → a.minutes ≡ 0
     → (Empty ≡ minutes_in_hand now a) × (cell_fits 9 Empty ≡ true)
 unfolding minutes_in_hand
-minutes_none now a e = (rw (eq-eqb a.length 0 e), empty_fits 9)
+minutes_none now a e = (rw (eq-eqb a.minutes 0 e), empty_fits 9)
 
-pub minutes_some : (now : ℕ) (a : Authority) (length : ℕ) (c : Cell) → (a.length ≡ 0 → ⊥) → length ≡ a.length
-    → c ≡ difference (a.start + length) now → a.start < 10000 * 1440 → a.length < 65536 → now < 10 ^ 8
+pub minutes_some : (now : ℕ) (a : Authority) (minutes : ℕ) (c : Cell) → (a.minutes ≡ 0 → ⊥) → minutes ≡ a.minutes
+    → c ≡ difference (a.start + minutes) now → a.start < 10000 * 1440 → a.minutes < 65536 → now < 10 ^ 8
     → (c ≡ minutes_in_hand now a) × (cell_fits 9 c ≡ true)
 unfolding minutes_in_hand
-minutes_some now a length c n m e s l h =
-    let d : c ≡ difference (a.start + a.length) now = e ∙ rw m in
-    (rw (ne_eqb a.length 0 n) d, rw d (difference_in (a.start + a.length) now (omega arith) h))
+minutes_some now a minutes c n m e s l h =
+    let d : c ≡ difference (a.start + a.minutes) now = e ∙ rw m in
+    (rw (ne_eqb a.minutes 0 n) d, rw d (difference_in (a.start + a.minutes) now (omega arith) h))
 
 -- the line of an authority: its cells are those of the definition, and each fits
-pub authority_line_lem : (now : ℕ) (a : Authority) (number kind first last officer stage site : ℕ) (minutes : Cell)
+pub authority_line_lem : (now : ℕ) (a : Authority) (number kind low high officer stage site : ℕ) (minutes : Cell)
     (agreed : ℕ)
     → authority_no a < 65536 → a.officer < 65536 → a.agreed.0 < 65536
-    → number ≡ authority_no a → kind ≡ kind_no a.kind → first ≡ least a.limits → last ≡ greatest a.limits
+    → number ≡ authority_no a → kind ≡ kind_no a.kind → low ≡ least a.limits → high ≡ greatest a.limits
     → officer ≡ a.officer → stage ≡ stage_no a → site ≡ site_no a
     → (minutes ≡ minutes_in_hand now a) × (cell_fits 9 minutes ≡ true) → agreed ≡ a.agreed.0
     → let cells =
-    Number number ∷ Number kind ∷ Number first ∷ Number last ∷ Number officer ∷ Number stage ∷ Number site ∷ minutes
+    Number number ∷ Number kind ∷ Number low ∷ Number high ∷ Number officer ∷ Number stage ∷ Number site ∷ minutes
     ∷ Number agreed ∷ [] in
     (cells ≡ authority_cells now a) × (cells_fit authority_widths cells ≡ true)
 unfolding fit_of authority_cells
-authority_line_lem now a number kind first last officer stage site minutes agreed n o r b k f l w t s m g = (
+authority_line_lem now a number kind low high officer stage site minutes agreed n o r b k f l w t s m g = (
   rw (b, k, f, l, w, t, s, m.0, g),
   and_from _ _ (eight_in number (omega arith))
       (and_from _ _ (seven_in kind (omega (arith, kind_in a.kind)))
-      (and_from _ _ (eight_in first (omega (arith, least_most a.limits)))
-      (and_from _ _ (eight_in last (omega (arith, greatest_most a.limits)))
+      (and_from _ _ (eight_in low (omega (arith, least_most a.limits)))
+      (and_from _ _ (eight_in high (omega (arith, greatest_most a.limits)))
       (and_from _ _ (eight_in officer (omega arith))
       (and_from _ _ (eight_in stage (omega (arith, pick_in (is_in_force a) 2 1 (omega arith) (omega arith))))
       (and_from _ _ (eight_in site (omega (arith, pick_in (has_workers_on a) 1 2 (omega arith) (omega arith))))

@@ -77,12 +77,13 @@ module _ (r : Register) (buffer page : List ℕ) (k : Kept r) (h : 2409 ≤ leng
   page_room = omega (arith, few r k r.authorities.items refl)
 
   -- where the lines of the live authorities stand on the page, and the last line is written, the sheet is
-  pub sheet_long : page ≡ page_of lines ++ drop (73 * length lines) buffer → (cells : List Cell) (last : List ℕ)
+  pub sheet_printed : page ≡ page_of lines ++ drop (73 * length lines) buffer → (cells : List Cell) (last : List ℕ)
       → (cells ≡ total_cells (board_of r)) × (cells_fit total_widths cells ≡ true) → last ≡ cell_line total_widths cells
-      → SheetPost r buffer 0 (live + 1) (put_mid (73 * live) (73 * live + 73 - 73 * live) page last)
+      → (length (sheet (board_of r)) ≡ 73 * (live + 1))
+      × (put_mid (73 * live) (73 * live + 73 - 73 * live) page last
+      ≡ sheet (board_of r) ++ drop (73 * (live + 1)) buffer)
   unfolding board_of total_line sheet_lines sheet
-  sheet_long e cells last c q =
-      let short = le-ltb (length buffer) 2409 h in
+  sheet_printed e cells last c q =
       let count : length lines ≡ live =
       length-map r.authorities.items (authority_line (minute_of r.day r.time)) ∙ sym n in
       let bytes : page ≡ page_of lines ++ drop (73 * live) buffer = e ∙ rw count in
@@ -90,19 +91,20 @@ module _ (r : Register) (buffer page : List ℕ) (k : Kept r) (h : 2409 ≤ leng
       sym (simp (length-append, length-drop) at (ap length bytes)) ∙ long in
       let room : 73 * live ≤ length buffer = omega (arith, page_room) in
       let all : Printed lines (73 * live) buffer page = record { size = omega arith; long = long; bytes = bytes } in
-      let printed = printed_next lines last (73 * live) buffer page (omega (arith, page_room)) all
-      (ap length q ∙ total_73 cells c.1) in
       let is : lines ++ (last ∷ []) ≡ sheet_lines (board_of r) =
       ap (λ (t : List ℕ). lines ++ (t ∷ [])) (q ∙ ap (cell_line total_widths) c.0) in
-      let counted : live + 1 ≡ length (lines ++ (last ∷ [])) =
-      sym (length-append lines (last ∷ []) ∙ ap (λ (m : ℕ). m + 1) count) in
-      record {
-        answered = rw short;
-        counted = rw short (counted ∙ ap length is);
-        bytes = rw short (printed.bytes
-            ∙ ap₂ (λ (x : List ℕ) (m : ℕ). x ++ drop m buffer) (ap page_of is)
-            (sym printed.size ∙ ap (λ (l : List (List ℕ)). length (page_of l)) is));
-      }
+      let at : 73 * live + 73 ≡ 73 * (live + 1) = omega arith in
+      let printed = printed_next lines last (73 * live) buffer page (omega (arith, page_room)) all
+      (ap length q ∙ total_73 cells c.1) in
+      (
+        rw (← is) printed.size ∙ at,
+        rw (← is, ← at) printed.bytes,
+      )
+
+-- the sheet has a line for each live authority, and one more
+pub lines_live : (r : Register) → length (sheet_lines (board_of r)) ≡ length r.authorities.items + 1
+unfolding board_of sheet_lines
+lines_live r = simp (length-append, length-map)
 
 -- ---- what callers cite
 

@@ -4,4 +4,4 @@
 mod page;
 mod rows;
 
-pub use page::write_sheet;
+pub use page::{write_page, write_sheet};

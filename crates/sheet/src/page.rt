@@ -4,7 +4,8 @@ ghost use Rattle.columns.specs.Cells.{cell_line, cells_fit};
 ghost use Rattle.rules.specs.Answer.{answer_no, lines_no};
 ghost use Rattle.rules.specs.Call.{minute_of};
 ghost use Rattle.rules.specs.Step.{Kept};
-ghost use Rattle.rules.specs.Sheet.{authority_line, page_of, SheetPost};
+ghost use Rattle.rules.specs.Board.{board_of};
+ghost use Rattle.rules.specs.Sheet.{authority_line, page_of, sheet_lines, sheet, SheetPost};
 
 use crate::rows::{authority_cells, total_cells};
 use columns::Cell;
@@ -54,16 +55,15 @@ fn write_authorities(register: &Register, page: &mut [u8])
     }
 }
 
-// Writes the sheet of a register to the front of the buffer, and gives the number of lines; later bytes stay. A buffer
-// that is shorter than a page is refused and stays as it was.
+// Writes the sheet of a register to the front of a buffer with room for a page, and gives the number of lines, 73 bytes
+// each; later bytes stay.
 // Kept: `Kept`, as board's `call` says.
-pub fn write_sheet(register: &Register, page: &mut [u8]) -> Result<usize, Refusal>
-    requires { Kept register.now }
-    ensures { SheetPost register.now page.old (answer_no result) (lines_no result) page.new }
+pub fn write_page(register: &Register, page: &mut [u8]) -> usize
+    requires { Kept register.now × (2409 ≤ length page.old) }
+    ensures lines { result ≡ length (sheet_lines (board_of register.now)) }
+    ensures size { length (sheet (board_of register.now)) ≡ 73 * result }
+    ensures bytes { page.new ≡ sheet (board_of register.now) ++ drop (73 * result) page.old }
 {
-    if page.len() < PAGE_SIZE {
-        return Err(Refusal::ShortPage);
-    }
     write_authorities(register, page);
     let live = register.authorities.len();
     let at = LINE_SIZE * live;
@@ -72,5 +72,18 @@ pub fn write_sheet(register: &Register, page: &mut [u8]) -> Result<usize, Refusa
         &TOTAL_WIDTHS,
         &total_cells(register),
     );
-    Ok(live + 1)
+    live + 1
+}
+
+// Writes the sheet of a register as `write_page` does. A buffer that is shorter than a page is refused and stays as it
+// was.
+// Kept: `Kept`, as board's `call` says.
+pub fn write_sheet(register: &Register, page: &mut [u8]) -> Result<usize, Refusal>
+    requires { Kept register.now }
+    ensures { SheetPost register.now page.old (answer_no result) (lines_no result) page.new }
+{
+    if page.len() < PAGE_SIZE {
+        return Err(Refusal::ShortPage);
+    }
+    Ok(write_page(register, page))
 }

@@ -22,15 +22,15 @@ fn site_no(a: Authority) -> u32
     if a.workers_on { 1 } else { 2 }
 }
 
-// Start plus length, minus now; nothing where there is no term.
+// Start plus the term's minutes, minus now; nothing where there is no term.
 fn minutes_in_hand(a: Authority, now: u32) -> Cell
     requires { (a.start < 10000 * 1440) × (now < 10 ^ 8) }
     ensures { (result ≡ minutes_in_hand now a) × (cell_fits 9 result ≡ true) }
 {
-    if a.length == 0 {
+    if a.minutes == 0 {
         return Cell::Empty;
     }
-    difference(a.start + u32::from(a.length), now)
+    difference(a.start + u32::from(a.minutes), now)
 }
 
 // The line of a live authority; its last cell is the authority whose officer's agreement it rests on, 0 for none.

@@ -7,6 +7,7 @@ use mathlib.Core.List.{List, [], ◌∷◌}
 use Rattle.std.specs.Prelude.{Option, Some, None, find, is_some, eqb}
 use Rattle.lists.specs.Search.{any}
 use Rattle.lists.proofs.Finds.{found_none, found_is, found_any}
+use Rattle.rules.specs.declared.AuthorityNo.{AuthorityNo}
 use Rattle.rules.specs.declared.TrainNo.{TrainNo}
 use Rattle.rules.specs.declared.Authority.{Authority}
 use Rattle.rules.specs.declared.Train.{Train}
@@ -35,10 +36,11 @@ find_by_ends Passes (t ∷ ts) r (inr (inr (head, rear, rest))) by test answers 
     (find_by_ends Passes ts r rest by test answers either)
 
 -- the tests of a train at an end: it is in the way of a CONTINUE by that end, or is another at the portion by it
-abbrev end_in_the_way : ℕ → Authority → Train → ℕ → Bool
-end_in_the_way old a t end = has end a.limits && (is_twa a.kind || not (eqb t.with.0 old) || not (has t.head a.limits))
+abbrev end_in_the_way : AuthorityNo → Authority → Train → ℕ → Bool
+end_in_the_way old a t end =
+    has end a.limits && (is_twa a.kind || not (eqb t.with.0 old.0) || not (has t.head a.limits))
 
-abbrev end_of_another : ℕ → ℕ → Train → ℕ → Bool
+abbrev end_of_another : TrainNo → ℕ → Train → ℕ → Bool
 end_of_another n p t end = not (is_train n t) && not (is_outside p) && eqb end p
 
 -- the four searches, for the check: by what the closure that makes the test answers
@@ -53,7 +55,7 @@ module _ (Passes : Train → ℕ → Bool → Type 0) (ts : List Train) (r : Opt
         ap is_some (find_by_ends Passes ts r searched by test answers either) ∙ found_any test ts
 
     -- the train with a number
-    pub numbered_by_ends : (n : ℕ) → ((t : Train) (end : ℕ) (b : Bool) → Passes t end b → b ≡ is_train n t)
+    pub numbered_by_ends : (n : TrainNo) → ((t : Train) (end : ℕ) (b : Bool) → Passes t end b → b ≡ is_train n t)
         → r ≡ find (is_train n) ts
     numbered_by_ends n answers =
         find_by_ends Passes ts r searched (λ t end. is_train n t) (is_train n) answers (λ t. or_self (is_train n t))
@@ -65,14 +67,14 @@ module _ (Passes : Train → ℕ → Bool → Type 0) (ts : List Train) (r : Opt
     touching_by_ends set answers = any_by_ends (λ t end. has end set) _ answers (λ t. refl)
 
     -- one in the way of a CONTINUE
-    pub in_the_way_by_ends : (old : ℕ) (a : Authority)
+    pub in_the_way_by_ends : (old : AuthorityNo) (a : Authority)
         → ((t : Train) (end : ℕ) (b : Bool) → Passes t end b → b ≡ end_in_the_way old a t end)
         → is_some r ≡ any (in_the_way old a) ts
     unfolding in_the_way touches
     in_the_way_by_ends old a answers = any_by_ends (end_in_the_way old a) _ answers (λ t. rw and-or_distrib_right)
 
     -- another that touches the portion
-    pub another_by_ends : (n p : ℕ)
+    pub another_by_ends : (n : TrainNo) (p : ℕ)
         → ((t : Train) (end : ℕ) (b : Bool) → Passes t end b → b ≡ end_of_another n p t end)
         → is_some r ≡ any (is_other_at n p) ts
     unfolding is_other_at touches_portion
@@ -83,14 +85,14 @@ module _ (Passes : Train → ℕ → Bool → Type 0) (ts : List Train) (r : Opt
 
 -- a train with that number is on the board, and it is t
 pub record There (b : Board) (n : TrainNo) (t : Train) : Type 0 where
-  pub on : on_board b n.0 ≡ true
-  pub is : train b n.0 ≡ t
+  pub on : on_board b n ≡ true
+  pub is : train b n ≡ t
 
-module _ (b : Board) (n : TrainNo) {f : Option Train} (looked : f ≡ find (is_train n.0) b.trains) where
+module _ (b : Board) (n : TrainNo) {f : Option Train} (looked : f ≡ find (is_train n) b.trains) where
   pub train_there : {t : Train} → f ≡ Some t → There b n t
   unfolding on_board train
-  train_there is = let h = found_is (is_train n.0) no_train b.trains (sym looked ∙ is) in record { on = h.0; is = h.1 }
+  train_there is = let h = found_is (is_train n) no_train b.trains (sym looked ∙ is) in record { on = h.0; is = h.1 }
 
-  pub train_missing : f ≡ None → on_board b n.0 ≡ false
+  pub train_missing : f ≡ None → on_board b n ≡ false
   unfolding on_board
-  train_missing none = found_none (is_train n.0) b.trains (sym looked ∙ none)
+  train_missing none = found_none (is_train n) b.trains (sym looked ∙ none)

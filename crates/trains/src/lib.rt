@@ -31,7 +31,7 @@ fn search_ends<F: Fn(Train, u16) -> bool>(trains: &[Train], passes: F) -> Option
 // The train with that number, whichever its end.
 #[tactic(auto, using(crate::proofs::TrainLaws::numbered_by_ends))]
 pub fn find_train(trains: &[Train], n: TrainNo) -> Option<Train>
-    ensures { result ≡ find (is_train n.0) trains.now }
+    ensures { result ≡ find (is_train n) trains.now }
 {
     search_ends(trains, |t, _| t.number == n)
 }
@@ -47,7 +47,7 @@ pub fn is_any_touching(trains: &[Train], set: u64) -> bool
 // A train is in the way of a CONTINUE from old to a (refusal 12).
 #[tactic(auto, using(crate::proofs::TrainLaws::in_the_way_by_ends))]
 pub fn is_any_in_the_way(trains: &[Train], old: AuthorityNo, a: Authority) -> bool
-    ensures { result ≡ any (in_the_way old.0 a) trains.now }
+    ensures { result ≡ any (in_the_way old a) trains.now }
 {
     search_ends(trains, |t, end| {
         sets::has(a.limits, end)
@@ -59,7 +59,7 @@ pub fn is_any_in_the_way(trains: &[Train], old: AuthorityNo, a: Authority) -> bo
 // Another train than n touches the portion.
 #[tactic(auto, using(crate::proofs::TrainLaws::another_by_ends))]
 pub fn is_another_at(trains: &[Train], n: TrainNo, p: u16) -> bool
-    ensures { result ≡ any (is_other_at n.0 p) trains.now }
+    ensures { result ≡ any (is_other_at n p) trains.now }
 {
     search_ends(trains, |t, end| t.number != n && p != 99 && end == p).is_some()
 }

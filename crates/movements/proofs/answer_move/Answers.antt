@@ -11,20 +11,20 @@ use Rattle.movements.proofs.answer_move.Goals.{After-gate_at-gate, After-is_anot
 use Rattle.movements.proofs.answer_move.Goals.{After-is_none-3, After-ne}
 
 -- the gate, looked for
-gate : (c : After-gate_at-gate) → gate_at c.args.register.now.gates.items c.args.g.0 ≡ c.gate_at-gate.result
+gate : (c : After-gate_at-gate) → gate_at c.args.register.now.gates.items c.args.g ≡ c.gate_at-gate.result
 gate c = search rules
 
 -- what the tests ask of E and W
 is_12 : (c : After-is_another_at)
-    → taken (board_of c.args.register.now) c.args.t.0 c.gate_at-gate.result.to
+    → taken (board_of c.args.register.now) c.args.t c.gate_at-gate.result.to
     ≡ (c.is_none.result && c.is_another_at.result)
 unfolding board_of
 is_12 c =
     let to = c.gate_at-gate.result.to in
     is_taken (board_of c.args.register.now) to
     (looked (is_e to) (finds_e c.in_force_at-e.ensures (λ k b h. search rules)) c.deref-2.ensures.0)
-    c.args.t.0 _ c.is_none.ensures
-    (c.is_another_at.ensures ∙ ap (any (is_other_at c.args.t.0 to)) c.deref-4.ensures.0)
+    c.args.t _ c.is_none.ensures
+    (c.is_another_at.ensures ∙ ap (any (is_other_at c.args.t to)) c.deref-4.ensures.0)
 
 is_14 : (c : After-has_workers_on)
     → worked_on (board_of c.args.register.now) c.gate_at-gate.result.to ≡ c.has_workers_on.result
@@ -36,7 +36,7 @@ is_14 c =
     c.has_workers_on.ensures
 
 is_18 : (c : After-is_none-3)
-    → barred (board_of c.args.register.now) c.args.g.0 c.gate_at-gate.result.to
+    → barred (board_of c.args.register.now) c.args.g c.gate_at-gate.result.to
     ≡ ((c.has.result && c.is_none-2.result) && c.is_none-3.result)
 unfolding board_of
 is_18 c =
@@ -44,10 +44,10 @@ is_18 c =
     is_barred (board_of c.args.register.now) to
     (looked (is_e to) (finds_e c.in_force_at-e.ensures (λ k b h. search rules)) c.deref-2.ensures.0)
     (looked (is_w to) (finds_w c.in_force_at-w.ensures (λ k b h. search rules)) c.deref-3.ensures.0)
-    c.args.g.0 _ _ c.has.ensures c.is_none-2.ensures c.is_none-3.ensures
+    c.args.g _ _ c.has.ensures c.is_none-2.ensures c.is_none-3.ensures
 
 is_19 : (c : After-ne)
-    → not_piloted (board_of c.args.register.now) c.gate_at-gate.result.to c.args.n.0 c.args.officer
+    → not_piloted (board_of c.args.register.now) c.gate_at-gate.result.to c.args.n c.args.officer
     ≡ (c.ne.result || not (eqb c.args.officer c.pilot_of-pilot.result.officer))
 unfolding board_of
 is_19 c =
@@ -55,7 +55,7 @@ is_19 c =
     is_not_piloted (board_of c.args.register.now) to
     (looked (is_e to) (finds_e c.in_force_at-e.ensures (λ k b h. search rules)) c.deref-2.ensures.0)
     (looked (is_w to) (finds_w c.in_force_at-w.ensures (λ k b h. search rules)) c.deref-3.ensures.0)
-    c.args.n.0 c.args.officer c.pilot_of-pilot.ensures c.ne.ensures
+    c.args.n c.args.officer c.pilot_of-pilot.ensures c.ne.ensures
 
 pub returns-then-has_no_room : goal.returns-then-has_no_room
 unfolding lowest board_of

@@ -7,6 +7,6 @@ pub returns : goal.returns
 unfolding board_of
 returns c =
     let b = board_of c.args.register.now in
-    let x = found b c.args.n.0 (cc) c.in_ok-x.ensures.ok_part in
-    let y = found b c.args.m.0 (cc) c.in_ok-y.ensures.ok_part in
+    let x = found b c.args.n (cc) c.in_ok-x.ensures.ok_part in
+    let y = found b c.args.m (cc) c.in_ok-y.ensures.ok_part in
     rw (x.0, y.0, x.1, y.1) c.decide_agreement.ensures

@@ -16,6 +16,6 @@ pub returns : goal.returns
 returns c =
     let w = c.write_line in
     let wrote =
-    rw (c.from.ensures, c.answer_number.ensures, c.from-2.ensures, c.allotted_number.ensures) at w.ensures in
+    rw (c.from.ensures, c.from-2.ensures, c.answer_number.ensures, c.allotted_number.ensures) at w.ensures in
     journal_filled _ _ _ _ _ _ _ _ wrote c.requires.0 c.copy_from_slice.ensures.after (omega arith) (search rules)
     (search rules)

@@ -6,5 +6,5 @@ use Rattle.effects.proofs.changes.amend.Goals as goal
 
 pub returns : goal.returns
 returns g c = record {
-  by = λ f gives. changed-where (is_authority c.args.n.0) f c.change.ensures (λ x b k. search rules) gives;
+  by = λ f gives. changed-where (is_authority c.args.n) f c.change.ensures (λ x b k. search rules) gives;
 }

@@ -8,4 +8,4 @@ use Rattle.effects.proofs.effect.limits_of.Goals as goal
 pub returns : goal.returns
 returns c =
     let found : c.unwrap_or_default.result ≡ unwrap_or c.find.result no_authority = search rules in
-    rw (first-find (is_authority c.args.n.0) no_authority, ← c.find.ensures, ← found) refl
+    rw (first-find (is_authority c.args.n) no_authority, ← c.find.ensures, ← found) refl

@@ -6,6 +6,6 @@ use Rattle.effects.proofs.running.continue_with.Goals as goal
 
 pub returns : goal.returns
 returns c =
-    changed-where (is_with c.args.old.0) (continued_with c.args.new c.args.limits) c.change.ensures
+    changed-where (is_with c.args.old) (continued_with c.args.new c.args.limits) c.change.ensures
     (λ x b k. search rules)
     (λ x y k. search rules)

@@ -10,9 +10,9 @@ use Rattle.effects.proofs.running.draw_in.Goals as goal
 pub returns-then-head_of-eq99 : goal.returns-then-head_of-eq99
 returns-then-head_of-eq99 c =
     rw (← (rw c.deref.ensures.0 at c.head_of.ensures), eq-eqb _ _ c.if-head_of-eq99.true)
-    (filter-from_retain _ (is_not_train c.args.t.0) _ (λ x b f' y k. search rules) _ _ c.retain.ensures.filtered)
+    (filter-from_retain _ (is_not_train c.args.t) _ (λ x b f' y k. search rules) _ _ c.retain.ensures.filtered)
 
 pub returns-else-head_of-eq99 : goal.returns-else-head_of-eq99
 returns-else-head_of-eq99 c =
     rw (← (rw c.deref.ensures.0 at c.head_of.ensures), ne_eqb _ _ c.if-head_of-eq99.false)
-    (changed-where (is_train c.args.t.0) with_rear_in c.change.ensures (λ x b k. search rules) (λ x y k. search rules))
+    (changed-where (is_train c.args.t) with_rear_in c.change.ensures (λ x b k. search rules) (λ x y k. search rules))

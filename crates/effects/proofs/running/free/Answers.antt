@@ -7,5 +7,5 @@ use Rattle.effects.proofs.running.free.Goals as goal
 
 pub returns : goal.returns
 returns c =
-    changed-where (is_with c.args.n.0) (with_authority (authority_of 0)) c.change.ensures (λ x b k. search rules)
+    changed-where (is_with c.args.n) (with_authority (authority_of 0)) c.change.ensures (λ x b k. search rules)
     (λ x y k. search rules)

@@ -15,5 +15,5 @@ returns-then-gate-eq99 c = rw (eq-eqb _ _ c.if-gate-eq99.true) c.insert_train.en
 pub returns-else-gate-eq99 : goal.returns-else-gate-eq99
 returns-else-gate-eq99 c =
     rw (ne_eqb _ _ c.if-gate-eq99.false)
-    (changed-where (is_train c.args.t.0) (with_head c.args.gate.to c.args.n) c.change.ensures (λ x b k. search rules)
+    (changed-where (is_train c.args.t) (with_head c.args.gate.to c.args.n) c.change.ensures (λ x b k. search rules)
     (λ x y k. search rules))

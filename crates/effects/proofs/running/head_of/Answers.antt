@@ -8,4 +8,4 @@ use Rattle.effects.proofs.running.head_of.Goals as goal
 pub returns : goal.returns
 returns c =
     let found : c.unwrap_or_default.result ≡ unwrap_or c.find_train.result no_train = search rules in
-    rw (first-find (is_train c.args.t.0) no_train, ← c.find_train.ensures, ← found) refl
+    rw (first-find (is_train c.args.t) no_train, ← c.find_train.ensures, ← found) refl

@@ -10,11 +10,11 @@ use Rattle.effects.proofs.running.insert_train.Goals.{After-unwrap_or-place}
 
 -- the place is that of the first train with a higher number, or the end
 place_is : (c : After-unwrap_or-place)
-    → c.unwrap_or-place.result ≡ position_or_len (is_above c.args.t.number.0) c.args.trains.now.items
+    → c.unwrap_or-place.result ≡ position_or_len (is_above c.args.t.number) c.args.trains.now.items
 place_is c =
     c.unwrap_or-place.ensures
     ∙ rw (c.first_above.ensures, c.deref.ensures.0, c.len.ensures.value)
-    (place_of (is_above c.args.t.number.0) c.args.trains.now.items)
+    (place_of (is_above c.args.t.number) c.args.trains.now.items)
 
 pub insert-requires : goal.insert-requires
 insert-requires c =

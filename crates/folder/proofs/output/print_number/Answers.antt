@@ -1,0 +1,12 @@
+-- The buffer is the number's line.
+use Rattle.std.proofs.Common.{rules, refl, subst, OnOk}
+use Rattle.std.specs.Io.KnownBytes.{Appends}
+use Rattle.folder.proofs.NumberLines.{number_line}
+use Rattle.folder.proofs.output.print_number.Goals as goal
+
+pub returns : goal.returns
+returns g c =
+    let is = number_line c.args.n _ _ _ (rw c.from.ensures at c.write_line.ensures) (search rules) refl in
+    subst
+    (λ l. OnOk c.print.result (Appends (g.W.Write.contents c.args.output.now) (g.W.Write.contents c.print.new.output) l))
+    is c.print.ensures.written
