@@ -27,11 +27,7 @@ use Rattle.calls.specs.Run.{made, journal, run_of, RunPost}
 use Rattle.calls.proofs.CallLines.{six_fit}
 use Rattle.calls.proofs.Lengths.{SmallCall, line_small, line_on_length, calls_small}
 use Rattle.calls.proofs.Parts.{line_on}
-use Rattle.claims.specs.Told.{Told, told_on, told_in, answers_of, tells}
-
--- of one call on a board
-abbrev pub told_by : Board → Made → Told
-told_by b m = record { seven = m.seven; answer = answer b m.seven m.room; number = allotted b m.seven m.room }
+use Rattle.claims.specs.Told.{Told, told_on, told_in, answers_of, told_by, tells}
 
 pub tells_append : (b : Board) (xs ys : List Made) → tells b (xs ++ ys) ≡ tells b xs ++ tells (final b xs) ys
 unfolding tells final

@@ -20,8 +20,8 @@ pub record Told : Type 0 where
   pub number : ℕ
 
 -- of a call that returned this answer
-abbrev pub told : Seven → Result (Option AuthorityNo) Refusal → Told
-told s given = record { seven = s; answer = answer_no given; number = number_no given }
+abbrev pub told_of : Seven → Result (Option AuthorityNo) Refusal → Told
+told_of s given = record { seven = s; answer = answer_no given; number = number_no given }
 
 -- of the nine numbers of a line
 abbrev pub told_as : List ℕ → Told
@@ -29,8 +29,8 @@ told_as ns = record { seven = seven_of ns; answer = get_or ns 7 0; number = get_
 
 -- of a line of a journal: nine numbers, "each right-justified in 6 columns, then a line feed"; any other tells nothing
 unfoldable pub told_on : List ℕ → List Told
-told_on line =
-    cond (row_of 65535 journal_widths line).whole (told_as (row_of 65535 journal_widths line).numbers ∷ []) []
+told_on text =
+    cond (row_of 65535 journal_widths text).whole (told_as (row_of 65535 journal_widths text).numbers ∷ []) []
 
 -- of the first n lines of a buffer, 55 bytes each
 unfoldable pub told_in : ℕ → List ℕ → List Told
@@ -41,12 +41,13 @@ told_in (suc n) buffer = told_on (take 55 buffer) ++ told_in n (drop 55 buffer)
 abbrev pub answers_of : List Told → List Answered
 answers_of ts = map (λ t. record { seven = t.seven; answer = t.answer }) ts
 
--- what the rules tell of a list of calls: each is handed the board that the call before it returned
+-- what the rules tell of a call on a board, and of a list of calls, each on the board that the call before it returned
+abbrev pub told_by : Board → Made → Told
+told_by b m = record { seven = m.seven; answer = answer b m.seven m.room; number = allotted b m.seven m.room }
+
 unfoldable pub tells : Board → List Made → List Told
 tells b [] = []
-tells b (m ∷ ms) =
-    record { seven = m.seven; answer = answer b m.seven m.room; number = allotted b m.seven m.room }
-    ∷ tells (after b m.seven m.room) ms
+tells b (m ∷ ms) = told_by b m ∷ tells (after b m.seven m.room) ms
 
 -- ---- the numbers that are due
 
