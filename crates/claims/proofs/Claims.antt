@@ -4,7 +4,7 @@
 -- texts of calls, ts is what was told of them, and r the register that was returned last. `Calling`, `Running`,
 -- `WritingSheet` and `Opening`: one use of a function, at any arguments. Assumes nothing.
 use Prim.Native.Nat.{ℕ, ◌*◌, ◌/◌, ◌≤◌, ◌<◌}
-use mathlib.Core.Path.{◌≡◌, refl, sym, ap, ap₂, subst, subst₂, ◌∙◌}
+use mathlib.Core.Path.{◌≡◌, refl, sym, ap, subst, subst₂, ◌∙◌}
 use mathlib.Core.Bool.{true, false}
 use mathlib.Core.List.{List, [], ◌∷◌, ◌++◌, map, append_assoc, append-nil}
 use lib.ListN.{length, drop, get_or, replicate, length-replicate}
@@ -56,8 +56,8 @@ use Rattle.sheet.proofs.SheetUses.{WritingSheet, SheetAsks, sheet_post, sheet_as
 use Rattle.claims.specs.Told.{Told, answers_of, tells, numbers_due, requests}
 use Rattle.claims.proofs.Counted.{numbers_from_1, last_is_count}
 use Rattle.claims.proofs.Possible.{open_possible, call_possible, run_possible, sheet_possible}
-use Rattle.claims.proofs.Ran.{Ran, ran_open, ran_call, ran_run}
-use Rattle.claims.proofs.Telling.{tells_append, tells_trace, told_since, refused_err, run_told}
+use Rattle.claims.proofs.Ran.{made_with, Ran, ran_open, ran_call, ran_run}
+use Rattle.claims.proofs.Telling.{board_more, told_more, tells_trace, told_since, refused_err, call_told, run_told}
 
 -- ---- what is asked is always met
 
@@ -86,12 +86,9 @@ pub ran_board : {plan : List ℕ} {ms : List Made} {ts : List Told} {r : Registe
 unfolding final run_of
 ran_board (ran_open o) = (opening_post o).board
 ran_board {plan} (ran_call {ms = ms} {s = s} {buffer = buffer} h c) =
-    (calling_post c).board ∙ ap (λ (b : Board). after b s (length buffer)) (ran_board h)
-    ∙ sym (final_append (open_board plan) ms (record { seven = s; room = length buffer } ∷ []))
+    board_more (open_board plan) ms (made_with s buffer ∷ []) (ran_board h) (calling_post c).board
 ran_board {plan} (ran_run {ms = ms} {text = text} {buffer = buffer} h c) =
-    let calls = map made (calls_in (length buffer / 55) text) in
-    (running_post c).board ∙ ap (λ (b : Board). final b calls) (ran_board h)
-    ∙ sym (final_append (open_board plan) ms calls)
+    board_more (open_board plan) ms (map made (calls_in (length buffer / 55) text)) (ran_board h) (running_post c).board
 
 -- what was told of the calls, answers and numbers, is what the rules tell
 pub ran_told : {plan : List ℕ} {ms : List Made} {ts : List Told} {r : Register} → Ran plan ms ts r
@@ -99,22 +96,21 @@ pub ran_told : {plan : List ℕ} {ms : List Made} {ts : List Told} {r : Register
 unfolding tells
 ran_told (ran_open o) = refl
 ran_told {plan} (ran_call {ms = ms} {s = s} {buffer = buffer} h c) =
-    let call = record { seven = s; room = length buffer } ∷ [] in
-    ap₂ (λ (xs ys : List Told). xs ++ ys) (ran_told h)
-    (ap₂ (λ (a n : ℕ). record { seven = s; answer = a; number = n } ∷ []) (calling_post c).answered
-    (calling_post c).number
-    ∙ ap (λ (b : Board). tells b call) (ran_board h))
-    ∙ sym (tells_append (open_board plan) ms call)
+    told_more (open_board plan) ms (made_with s buffer ∷ []) (ran_told h) (ran_board h) (call_told (calling_post c))
 ran_told {plan} (ran_run {ms = ms} {text = text} {buffer = buffer} h c) =
-    let calls = map made (calls_in (length buffer / 55) text) in
-    ap₂ (λ (xs ys : List Told). xs ++ ys) (ran_told h)
-    (run_told (running_post c) (ran_kept h).once ∙ ap (λ (b : Board). tells b calls) (ran_board h))
-    ∙ sym (tells_append (open_board plan) ms calls)
+    told_more (open_board plan) ms (map made (calls_in (length buffer / 55) text)) (ran_told h) (ran_board h)
+    (run_told (running_post c) (ran_kept h).once)
 
 -- so the answers are those of the rules' trace
 pub ran_trace : {plan : List ℕ} {ms : List Made} {ts : List Told} {r : Register} → Ran plan ms ts r
     → answers_of ts ≡ trace (open_board plan) ms
 ran_trace {plan} {ms} h = ap answers_of (ran_told h) ∙ tells_trace (open_board plan) ms
+
+-- the calls decide all, whether they are made one by one or as texts (with room for a line, 55 bytes, each), in whatever
+-- parts
+pub ran_decided : {plan : List ℕ} {ms : List Made} {ts ts' : List Told} {r r' : Register} → Ran plan ms ts r
+    → Ran plan ms ts' r' → (board_of r' ≡ board_of r) × (ts' ≡ ts)
+ran_decided h k = (ran_board k ∙ sym (ran_board h), ran_told k ∙ sym (ran_told h))
 
 -- what the rules have of the board and the answers after a list of calls is claimed of the register and of what was
 -- told
@@ -140,6 +136,22 @@ plan_refused {text} o refused =
     let p = opening_post o in
     let e = refused_plan text refused in
     (p.answered ∙ e.0, p.board ∙ e.1)
+
+-- a run's register is that of the calls of its text, made one after another with room for their lines, as many at most
+-- as the buffer has room for; their lines are at the front of the buffer, and its later bytes stay
+module _ {before : Register} {text buffer : List ℕ} {ran : AfterRun} {buffer' : List ℕ}
+    (c : Running before text buffer ran buffer') where
+  abbrev calls : List Seven
+  calls = calls_in (length buffer / 55) text
+
+  pub run_returns : Same (board_of ran.register) (final (board_of before) (map made calls))
+  unfolding run_of
+  run_returns = equal_same (board_of ran.register) (final (board_of before) (map made calls)) (running_post c).board
+
+  pub run_written : (ran.lines ≡ length calls)
+      × (buffer' ≡ journal (board_of before) calls ++ drop (55 * ran.lines) buffer)
+  unfolding run_of
+  run_written = let p = running_post c in (p.lines, p.bytes)
 
 module _ {before : Register} {s : Seven} {buffer : List ℕ} {called : Called} {buffer' : List ℕ}
     (c : Calling before s buffer called buffer') where
@@ -185,26 +197,8 @@ module _ {before : Register} {s : Seven} {buffer : List ℕ} {called : Called} {
       let e = (calling_post c).answered in
       (λ h z. refused_lowest b s room n (sym e ∙ z) h, λ h. e ∙ lowest_refused b s room n h)
 
--- a run's register is that of the calls of its text, made one after another with room for their lines, as many at most
--- as the buffer has room for; their lines are at the front of the buffer, and its later bytes stay
-module _ {before : Register} {text buffer : List ℕ} {ran : AfterRun} {buffer' : List ℕ}
-    (c : Running before text buffer ran buffer') where
-  abbrev calls : List Seven
-  calls = calls_in (length buffer / 55) text
-
-  pub run_returns : Same (board_of ran.register) (final (board_of before) (map made calls))
-  unfolding run_of
-  run_returns = equal_same (board_of ran.register) (final (board_of before) (map made calls)) (running_post c).board
-
-  pub run_written : (ran.lines ≡ length calls)
-      × (buffer' ≡ journal (board_of before) calls ++ drop (55 * ran.lines) buffer)
-  unfolding run_of
-  run_written = let p = running_post c in (p.lines, p.bytes)
-
 module _ {plan : List ℕ} {ms : List Made} {ts : List Told} {r : Register} (h : Ran plan ms ts r) where
-  -- the calls decide all, whether they are made one by one or as texts, in whatever parts
-  pub ran_decided : {ts' : List Told} {r' : Register} → Ran plan ms ts' r' → (board_of r' ≡ board_of r) × (ts' ≡ ts)
-  ran_decided k = (ran_board k ∙ sym (ran_board h), ran_told k ∙ sym (ran_told h))
+  -- ---- demand 2: the numbers
 
   -- "Numbers are allotted 1, 2, 3": the nth accepted REQUEST was told the number n, and every other call 0
   pub ran_numbered : map (λ t. t.number) ts ≡ numbers_due 0 (answers_of ts)

@@ -17,6 +17,10 @@ use Rattle.calls.specs.Run.{made}
 use Rattle.calls.proofs.RunUses.{Running}
 use Rattle.claims.specs.Told.{Told, told_of, told_in}
 
+-- a call that is made with a buffer for its line
+abbrev pub made_with : Seven → List ℕ → Made
+made_with s buffer = record { seven = s; room = length buffer }
+
 -- the plan's text; the calls made, in order; what was told of each; and the register that the last step returned
 pub data Ran : List ℕ → List Made → List Told → Register → Type 0 where
   ran_open : {plan : List ℕ} {opened : Opened} → Opening plan opened → Ran plan [] [] opened.register
@@ -24,7 +28,7 @@ pub data Ran : List ℕ → List Made → List Told → Register → Type 0 wher
   ran_call : {plan : List ℕ} {ms : List Made} {ts : List Told} {before : Register} {s : Seven} {buffer buffer' : List ℕ}
       {called : Called}
       → Ran plan ms ts before → Calling before s buffer called buffer'
-      → Ran plan (ms ++ (record { seven = s; room = length buffer } ∷ [])) (ts ++ (told_of s called.answer ∷ []))
+      → Ran plan (ms ++ (made_with s buffer ∷ [])) (ts ++ (told_of s called.answer ∷ []))
       called.register
   -- the calls of a text, as many at most as the buffer has room for lines of 55 bytes, with what is read off the lines
   -- that are in it at the return

@@ -1,7 +1,7 @@
 -- What the rules tell of calls, and that the lines of a journal say it: what was written is read back. Assumes nothing.
 use Prim.Native.Nat.{ℕ, ◌/◌, ◌*◌}
 use native.Mathlib.Omega.{arith}
-use mathlib.Core.Path.{◌≡◌, refl, sym, ap, ◌∙◌}
+use mathlib.Core.Path.{◌≡◌, refl, sym, ap, ap₂, ◌∙◌}
 use mathlib.Core.Bool.{true}
 use mathlib.Core.List.{List, [], ◌∷◌, ◌++◌, map, append_assoc}
 use borrow.Author.Tests.{le-leb}
@@ -13,23 +13,24 @@ use Rattle.std.specs.Prelude.{Result, Ok, Err, IsErr}
 use Rattle.lists.proofs.Search.{Each}
 use Rattle.columns.proofs.Rows.{at_most, read_line}
 use Rattle.rules.specs.declared.Seven.{Seven}
+use Rattle.rules.specs.declared.Called.{Called}
 use Rattle.rules.specs.declared.Register.{Register}
 use Rattle.rules.specs.declared.refusal.Refusal.{Refusal}
 use Rattle.rules.specs.Answer.{answer_no}
 use Rattle.rules.specs.Board.{Board, board_of}
 use Rattle.rules.specs.Refusals.{answer}
 use Rattle.rules.specs.Journal.{journal_widths, journal_line}
-use Rattle.rules.specs.Step.{Made, Answered, Once, after, allotted, trace, final}
+use Rattle.rules.specs.Step.{Made, Answered, Once, after, allotted, trace, final, CallPost}
 use Rattle.rules.proofs.Once.{once_after}
 use Rattle.rules.proofs.JournalLength.{Small, nine}
 use Rattle.calls.specs.CallsIn.{calls_in}
 use Rattle.calls.specs.Run.{made, journal, run_of, RunPost}
 use Rattle.calls.proofs.CallLines.{six_fit}
 use Rattle.calls.proofs.Lengths.{SmallCall, line_small, line_on_length, calls_small}
-use Rattle.calls.proofs.Parts.{line_on}
-use Rattle.claims.specs.Told.{Told, told_on, told_in, answers_of, told_by, tells}
+use Rattle.calls.proofs.Parts.{line_on, final_append}
+use Rattle.claims.specs.Told.{Told, told_on, told_of, told_in, answers_of, told_by, tells}
 
-pub tells_append : (b : Board) (xs ys : List Made) → tells b (xs ++ ys) ≡ tells b xs ++ tells (final b xs) ys
+tells_append : (b : Board) (xs ys : List Made) → tells b (xs ++ ys) ≡ tells b xs ++ tells (final b xs) ys
 unfolding tells final
 tells_append b [] ys = refl
 tells_append b (m ∷ xs) ys = ap (λ (ts : List Told). told_by b m ∷ ts) (tells_append (after b m.seven m.room) xs ys)
@@ -41,6 +42,16 @@ tells_trace b [] = refl
 tells_trace b (m ∷ ms) =
     ap (λ (cs : List Answered). record { seven = m.seven; answer = answer b m.seven m.room } ∷ cs)
     (tells_trace (after b m.seven m.room) ms)
+
+-- more calls: the board after them, and what is told
+module _ (b : Board) (ms ms' : List Made) {c : Board} where
+  pub board_more : {d : Board} → c ≡ final b ms → d ≡ final c ms' → d ≡ final b (ms ++ ms')
+  board_more e e' = e' ∙ ap (λ (c : Board). final c ms') e ∙ sym (final_append b ms ms')
+
+  pub told_more : {ts ts' : List Told} → ts ≡ tells b ms → c ≡ final b ms → ts' ≡ tells c ms'
+      → ts ++ ts' ≡ tells b (ms ++ ms')
+  told_more t e t' =
+      ap₂ (λ (xs ys : List Told). xs ++ ys) t (t' ∙ ap (λ (c : Board). tells c ms') e) ∙ sym (tells_append b ms ms')
 
 -- what was told since a list of calls
 pub told_since : (b : Board) (ms ms' : List Made) (ts ts' : List Told) → ts ≡ tells b ms
@@ -57,6 +68,14 @@ told_since b ms ms' ts ts' e e' =
 pub refused_err : {A : Type 0} (given : Result A Refusal) → (answer_no given ≡ 0 → ⊥) → IsErr given
 refused_err (Ok x) h = absurd (h refl)
 refused_err (Err refusal) h = refl
+
+-- THEOREM: what a call returned is what the rules tell of it
+pub call_told : {before : Register} {s : Seven} {buffer : List ℕ} {called : Called} {buffer' : List ℕ}
+    → CallPost before s buffer called buffer'
+    → told_of s called.answer ∷ [] ≡ tells (board_of before) (record { seven = s; room = length buffer } ∷ [])
+unfolding tells
+call_told {s = s} p =
+    ap₂ (λ (a n : ℕ). record { seven = s; answer = a; number = n } ∷ []) p.answered p.number
 
 -- ---- read back off the journal
 
