@@ -13,7 +13,7 @@ mod page;
 mod piece;
 mod pieces;
 
-pub use failure::Failure;
+pub use failure::{Failure, end_run};
 pub use input::{Filled, read_file};
 pub use journal::print_journal;
 pub use open_board::Board;
