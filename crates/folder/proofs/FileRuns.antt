@@ -1,5 +1,5 @@
 -- The calls of a file made piece by piece, from a reader to a writer. Assumes nothing.
-use Prim.Native.Nat.{ℕ, ◌+◌, ◌*◌, ◌≤◌, ◌<◌}
+use Prim.Native.Nat.{ℕ, ◌+◌, ◌*◌, ◌^◌, ◌≤◌, ◌<◌}
 use native.Mathlib.Omega.{arith}
 use mathlib.Core.Path.{◌≡◌, refl, sym, ap, subst, ◌∙◌}
 use mathlib.Core.List.{List, [], ◌++◌, append-nil, append_assoc}
@@ -20,7 +20,7 @@ use Rattle.folder.specs.declared.failure.Failure.TheVariants as failure
 use Rattle.folder.specs.declared.piece.Rest.{Rest}
 use Rattle.folder.specs.declared.piece.Rest.TheVariants.{More, End, Malformed}
 use Rattle.folder.specs.Behind.{behind, PieceRan}
-use Rattle.folder.specs.Outcomes.{whole_run, Has, RanAll}
+use Rattle.folder.specs.Outcomes.{whole_run, Has, IsEndless, RanAll}
 use Rattle.folder.proofs.WholeRuns.{Stops, run_on, run_end}
 
 -- ---- the pieces so far
@@ -94,6 +94,13 @@ had_all : (had has : Option (List ℕ)) (read : List ℕ) → Consumes had has r
 had_all None has read c = ([], tt, λ e. refl)
 had_all (Some x) None read c = absurd c
 had_all (Some x) (Some y) read c = (y, c, λ e. e)
+
+-- the pieces are counted to the end
+pub too_long : (b₀ b : Board) (pieces : ℕ) (had has held holds : Option (List ℕ)) → SoFar b₀ b pieces had has held holds
+    → 2 ^ 50 ≤ pieces → IsEndless had
+too_long b₀ b pieces had has held holds so most =
+    let all = had_all had has so.read so.consumed in
+    (so.read ++ all.0, all.1, rw (length-append so.read all.0, so.size) (omega arith))
 
 module _ (b₀ b b' : Board) (pieces : ℕ) (s : List ℕ) (made : ℕ) (had has has' held holds holds' : Option (List ℕ))
     (so : SoFar b₀ b pieces had has held holds) (turn : Turn b b' s made has has' holds holds') where

@@ -1,6 +1,6 @@
 -- What opening a plan, making all calls of a file and printing the sheet come to: the boards, and what is written.
 -- Assumes nothing.
-use Rattle.std.specs.Prelude.{ℕ, ◌+◌, ◌*◌, ◌/◌, ◌≡◌, ◌≢◌, Bool, true, false, cond, List, [], ◌∷◌, length, eqb, ⊤}
+use Rattle.std.specs.Prelude.{ℕ, ◌+◌, ◌*◌, ◌/◌, ◌^◌, ◌≤◌, ◌≡◌, ◌≢◌, Bool, true, false, cond, List, [], ◌∷◌, length, eqb, ⊤}
 use Rattle.std.specs.Prelude.{Option, Some, None, Result, Ok, Err}
 use Rattle.std.specs.Io.KnownBytes.{Keeps, Appends}
 use Rattle.columns.specs.Line.{line}
@@ -43,8 +43,13 @@ abbrev pub Has : Option (List ℕ) → List ℕ → Type 0
 Has None text = ⊤
 Has (Some bytes) text = bytes ≡ text
 
+-- a reader has a text of 2 ^ 50 pieces of 1024 lines, or more
+abbrev pub IsEndless : Option (List ℕ) → Type 0
+IsEndless had = (calls : List ℕ) × Has had calls × (43 * (1024 * 2 ^ 50) ≤ length calls)
+
 -- what making the calls that a reader has on a board comes to: the journal of those that were made is written, and the
--- run came to the end or to a malformed line. Nothing is claimed where reading or writing failed.
+-- run came to the end or to a malformed line, or the text is too long. Nothing is claimed where reading or writing
+-- failed.
 abbrev pub RanAll
     : Board → Option (List ℕ) → Option (List ℕ) → Option (List ℕ) → Result Register Failure → Type 0
 RanAll b had old new (Ok register) =
@@ -52,7 +57,7 @@ RanAll b had old new (Ok register) =
 RanAll b had old new (Err (Malformed name line)) =
     (calls : List ℕ) × Has had calls × RanToLine b calls line × Appends old new (whole_run b calls).text
 RanAll b had old new (Err (File name error)) = ⊤
-RanAll b had old new (Err (Endless name)) = ⊤
+RanAll b had old new (Err (Endless name)) = IsEndless had
 
 -- ---- a plan
 
@@ -66,7 +71,8 @@ PlanOpened text old new None = (open_answer text ≢ 0) × Appends old new (line
 -- ---- the sheet
 
 -- what printing the sheet after the calls that a reader has comes to: the sheet of the board after them is written,
--- where each line is a call; at a malformed line nothing is written. Nothing is claimed where reading or writing failed.
+-- where each line is a call; at a malformed line nothing is written. Nothing is claimed where reading or writing
+-- failed.
 abbrev pub PageAfter
     : {A : Type 0} → Board → Option (List ℕ) → Option (List ℕ) → Option (List ℕ) → Result A Failure → Type 0
 PageAfter b had old new (Ok done) =
@@ -74,7 +80,7 @@ PageAfter b had old new (Ok done) =
 PageAfter b had old new (Err (Malformed name line)) =
     (calls : List ℕ) × Has had calls × RanToLine b calls line × Keeps old new
 PageAfter b had old new (Err (File name error)) = ⊤
-PageAfter b had old new (Err (Endless name)) = ⊤
+PageAfter b had old new (Err (Endless name)) = IsEndless had
 
 -- ---- a working folder
 
@@ -83,7 +89,8 @@ abbrev pub printed : (Board → List ℕ → List ℕ) → List ℕ → List ℕ
 printed given plan calls =
     cond (eqb (open_answer plan) 0) (given (open_board plan) calls) (line (6 ∷ []) (open_answer plan ∷ []))
 
--- this is written of the texts of some plan and some calls; each line of the calls is one, where the plan is accepted
+-- this is written for some plan and some calls, since it is not known what a file holds; where the plan is accepted, all
+-- of the text are calls that were made
 abbrev pub Printed : (Board → List ℕ → List ℕ) → Option (List ℕ) → Option (List ℕ) → Type 0
 Printed given old new =
     (plan : List ℕ) × (calls : List ℕ) × (open_answer plan ≡ 0 → all_made (open_board plan) calls ≡ true)

@@ -1,6 +1,6 @@
 -- The pieces are run one after another to the end of the file.
-use Rattle.std.proofs.Common.{rules, true, refl, sym, ◌∙◌}
-use Rattle.folder.proofs.FileRuns.{turned, is_more, is_end, is_line, none_yet, one_more, to_end, to_line}
+use Rattle.std.proofs.Common.{arith, rules, true, refl, sym, ◌∙◌}
+use Rattle.folder.proofs.FileRuns.{turned, is_more, is_end, is_line, none_yet, one_more, too_long, to_end, to_line}
 use Rattle.folder.proofs.pieces.run_pieces.Goals as goal
 
 pub loop-piece-init : goal.loop-piece-init
@@ -32,3 +32,6 @@ returns-in-Malformed g c =
     (filled.end (c.in_ok-check.ensures.ok.0 (refl {a = true}))) c.in_ok-print.ensures.written in
     let line = is_line _ _ _ _ _ (sym ran.ran.rest ∙ c.in-Malformed.is) in
     rw line.1 (to_line _ _ _ _ _ _ _ _ _ _ _ _ c.loop-piece.invariant done c.args.name line.0)
+
+pub returns : goal.returns
+returns g c = too_long _ _ _ _ _ _ _ c.loop-piece.invariant (omega (arith, c.loop-piece-test.false))
