@@ -1,29 +1,26 @@
 -- The calls of a file made piece by piece, from a reader to a writer. Assumes nothing.
-use Prim.Native.Nat.{ℕ, suc, ◌+◌, ◌*◌, ◌≤◌, ◌<◌}
+use Prim.Native.Nat.{ℕ, ◌+◌, ◌*◌, ◌^◌, ◌≤◌, ◌<◌}
 use native.Mathlib.Omega.{arith}
 use mathlib.Core.Path.{◌≡◌, refl, sym, ap, subst, ◌∙◌}
-use mathlib.Core.Bool.{Bool, true, false, cond}
 use mathlib.Core.List.{List, [], ◌++◌, append-nil, append_assoc}
 use mathlib.Core.Logic.{◌⊎◌, inl, inr}
 use lib.ListN.{length, take, length-append}
 use lib.Seq.{length-take-le}
-use lib.Dec.{eqb}
-use borrow.Author.Tests.{ne_eqb, eq-eqb, eqb-true, ltb-true}
-use Rattle.std.specs.Prelude.{Option, Some, None, Result, Ok, Err, IfSome, ltb}
+use borrow.Author.Tests.{ne_eqb, eq-eqb}
+use Rattle.std.specs.Prelude.{Option, Some, None, Ok, Err}
 use Rattle.std.specs.Io.KnownBytes.{Consumes, Appends, IsAtEnd}
 use Rattle.std.proofs.KnownBytes.{Consumes-nil, Consumes-trans, Appends-nil, Appends-trans}
 use Rattle.std.proofs.Common.{Bor}
 use Rattle.std.proofs.lemmas.Bool.{cases_lt}
 use Rattle.rules.specs.declared.Register.{Register}
 use Rattle.rules.specs.Board.{Board, board_of}
-use Rattle.calls.specs.Run.{Run, run_of}
+use Rattle.calls.specs.Run.{run_of}
 use Rattle.calls.proofs.Parts.{going, run_none}
-use Rattle.folder.specs.declared.failure.Failure.{Failure}
 use Rattle.folder.specs.declared.failure.Failure.TheVariants as failure
 use Rattle.folder.specs.declared.piece.Rest.{Rest}
 use Rattle.folder.specs.declared.piece.Rest.TheVariants.{More, End, Malformed}
 use Rattle.folder.specs.Behind.{behind, PieceRan}
-use Rattle.folder.specs.Outcomes.{whole_run, all_made, RanToEnd, RanToLine, RanAll}
+use Rattle.folder.specs.Outcomes.{whole_run, Has, IsEndless, RanAll}
 use Rattle.folder.proofs.WholeRuns.{Stops, run_on, run_end}
 
 -- ---- the pieces so far
@@ -60,13 +57,14 @@ pub record Turn (b b' : Board) (s : List ℕ) (made : ℕ) (has has' holds holds
   pub at_end : length s < 43 * 1024 → IsAtEnd has'
   pub written : Appends holds holds' (run_of 1024 b s).text
 
+-- by what filling the buffer, running what was read and writing the journal give
 module _ (b : Board) (before made n : ℕ) (rest : Rest) (after : Register) (buffer out : List ℕ)
     (has has' holds holds' : Option (List ℕ)) where
-  pub turn : length buffer ≡ 43 * 1024 → n ≤ length buffer → 55 * made ≤ 55 * 1024
+  pub turned : length buffer ≡ 43 * 1024 → n ≤ length buffer → 55 * made ≤ 55 * 1024
       → PieceRan before (43 * 1024) b (take n buffer) after made rest out → Consumes has has' (take n buffer)
       → (n < length buffer → IsAtEnd has') → Appends holds holds' (take (55 * made) out)
       → Turn b (board_of after) (take n buffer) made has has' holds holds'
-  turn room bound few ran consumed end written =
+  turned room bound few ran consumed end written =
       let size = length-take-le n buffer bound in
       record {
         board = ran.board;
@@ -90,12 +88,19 @@ module _ (before made bytes room : ℕ) where
       → (43 * made ≡ bytes → ⊥) × (line ≡ before + made + 1)
   is_line line e = grind (arith, e)
 
--- the known bytes of a reader begin with what was read, and at its end they are that
-if_consumed : (had has : Option (List ℕ)) (read : List ℕ) (P : List ℕ → Type 0) → Consumes had has read
-    → ((rest : List ℕ) → (IsAtEnd has → rest ≡ []) → P (read ++ rest)) → IfSome had P
-if_consumed None has read P c h = tt
-if_consumed (Some x) None read P c h = absurd c
-if_consumed (Some x) (Some y) read P c h = subst P (sym c) (h y (λ e. e))
+-- what a reader had is what was read, and the rest, of which there is none at its end
+had_all : (had has : Option (List ℕ)) (read : List ℕ) → Consumes had has read
+    → (rest : List ℕ) × Has had (read ++ rest) × (IsAtEnd has → rest ≡ [])
+had_all None has read c = ([], tt, λ e. refl)
+had_all (Some x) None read c = absurd c
+had_all (Some x) (Some y) read c = (y, c, λ e. e)
+
+-- the pieces are counted to the end
+pub too_long : (b₀ b : Board) (pieces : ℕ) (had has held holds : Option (List ℕ)) → SoFar b₀ b pieces had has held holds
+    → 2 ^ 50 ≤ pieces → IsEndless had
+too_long b₀ b pieces had has held holds so most =
+    let all = had_all had has so.read so.consumed in
+    (so.read ++ all.0, all.1, rw (length-append so.read all.0, so.size) (omega arith))
 
 module _ (b₀ b b' : Board) (pieces : ℕ) (s : List ℕ) (made : ℕ) (had has has' held holds holds' : Option (List ℕ))
     (so : SoFar b₀ b pieces had has held holds) (turn : Turn b b' s made has has' holds holds') where
@@ -120,31 +125,30 @@ module _ (b₀ b b' : Board) (pieces : ℕ) (s : List ℕ) (made : ℕ) (had has
         written = written;
       }
 
-  -- what the reader had, where the piece is the last
-  last : (rest : List ℕ) → Stops s rest
-      → let w = whole_run b₀ (so.read ++ (s ++ rest)) in
-      (w.board ≡ b') × (w.text ≡ so.text ++ (run_of 1024 b s).text) × (w.lines ≡ 1024 * pieces + made)
-  last rest stop =
-      rw (turn.board, turn.lines)
-      (run_end b₀ b (1024 * pieces) so.read so.text so.size so.ran s rest turn.most stop)
+  -- where the run ends with the piece: the run of all that the reader had
+  last : (rest : List ℕ) → Has had ((so.read ++ s) ++ rest) → Stops s rest
+      → let calls = so.read ++ (s ++ rest) in let w = whole_run b₀ calls in
+      Has had calls × (w.board ≡ b') × (w.lines ≡ 1024 * pieces + made) × Appends held holds' w.text
+      × (length calls ≡ 43 * (1024 * pieces) + (length s + length rest))
+  last rest all stop =
+      let w = run_end b₀ b (1024 * pieces) so.read so.text so.size so.ran s rest turn.most stop in (
+        subst (Has had) (append_assoc so.read s rest) all,
+        rw turn.board w.0,
+        rw turn.lines w.2,
+        rw w.1 written,
+        rw (length-append so.read (s ++ rest), so.size, length-append s rest),
+      )
 
   -- each line of the piece is a call, and it does not fill its room
   pub to_end : (r : Register) → board_of r ≡ b' → 43 * made ≡ length s → length s < 43 * 1024
-      → IfSome had (λ calls. RanAll b₀ calls held holds' (Ok r))
+      → RanAll b₀ had held holds' (Ok r)
   to_end r is e less =
-      if_consumed had has' (so.read ++ s) _ consumed (λ rest none.
-        let gone = none (turn.at_end less) in
-        let l = last rest (inl gone) in
-        let size : length (so.read ++ (s ++ rest)) ≡ 43 * (1024 * pieces) + length s =
-        rw (gone, append-nil s, length-append so.read s, so.size) in
-        rw (append_assoc so.read s rest)
-        (
-          record {
-            board = is ∙ sym l.0;
-            all = rw (l.2, size) (eq-eqb (43 * (1024 * pieces + made)) (43 * (1024 * pieces) + length s) (omega arith));
-          },
-          rw l.1 written,
-        ))
+      let all = had_all had has' (so.read ++ s) consumed in
+      let none = all.2 (turn.at_end less) in
+      let l = last all.0 all.1 (inl none) in
+      let size : 43 * (1024 * pieces + made) ≡ 43 * (1024 * pieces) + (length s + length all.0) =
+      omega (arith, e, ap length none) in
+      (so.read ++ (s ++ all.0), l.0, record { board = is ∙ sym l.1; all = rw (l.2, l.4) (eq-eqb _ _ size) }, l.3)
 
   -- a line of the piece is none: it is the last piece, or has more lines than calls
   stops : (rest : List ℕ) → (43 * made ≡ length s → ⊥) → (IsAtEnd has' → rest ≡ []) → Stops s rest
@@ -158,23 +162,18 @@ module _ (b₀ b b' : Board) (pieces : ℕ) (s : List ℕ) (made : ℕ) (had has
 
   beyond : (rest : List ℕ) → (43 * made ≡ length s → ⊥) → Stops s rest
       → 43 * (1024 * pieces + made) ≡ 43 * (1024 * pieces) + (length s + length rest) → ⊥
-  unfolding run_of
-  beyond rest part (inl gone) e = part (omega (arith, e, ap length gone))
+  beyond rest part (inl none) e = part (omega (arith, e, ap length none))
   beyond rest part (inr (full, other)) e = part (omega (arith, e, full, turn.few))
 
   pub to_line : (name : Bor (List ℕ)) → (43 * made ≡ length s → ⊥)
-      → IfSome had (λ calls. RanAll b₀ calls held holds' (Err (failure.Malformed name (1024 * pieces + made + 1))))
+      → RanAll b₀ had held holds' (Err (failure.Malformed name (1024 * pieces + made + 1)))
   to_line name part =
-      if_consumed had has' (so.read ++ s) _ consumed (λ rest none.
-        let stop = stops rest part none in
-        let l = last rest stop in
-        let size : length (so.read ++ (s ++ rest)) ≡ 43 * (1024 * pieces) + (length s + length rest) =
-        rw (length-append so.read (s ++ rest), so.size, length-append s rest) in
-        rw (append_assoc so.read s rest)
-        (
-          record {
-            line = ap (λ (n : ℕ). n + 1) (sym l.2);
-            part = rw (l.2, size) (ne_eqb (43 * (1024 * pieces + made)) (43 * (1024 * pieces) + (length s + length rest)) (beyond rest part stop));
-          },
-          rw l.1 written,
-        ))
+      let all = had_all had has' (so.read ++ s) consumed in
+      let stop = stops all.0 part all.2 in
+      let l = last all.0 all.1 stop in
+      let short = ne_eqb _ _ (beyond all.0 part stop) in (
+        so.read ++ (s ++ all.0),
+        l.0,
+        record { line = ap (λ (n : ℕ). n + 1) (sym l.2); part = rw (l.2, l.4) short },
+        l.3,
+      )

@@ -3,11 +3,10 @@ use Prim.Native.Nat.{ℕ, zero, suc, ◌+◌, ◌-◌, ◌*◌, ◌/◌, ◌≤�
 use native.Mathlib.Nat.{zero-add, suc-add}
 use native.Mathlib.Omega.{arith}
 use mathlib.Core.Path.{◌≡◌, refl, sym, ap, ◌∙◌}
-use mathlib.Core.Bool.{true, false, cond}
-use mathlib.Core.List.{List, [], ◌∷◌, ◌++◌, map, append-nil}
+use mathlib.Core.Bool.{false}
+use mathlib.Core.List.{List, [], ◌++◌, map, append-nil}
 use mathlib.Core.Logic.{◌⊎◌, inl, inr}
 use lib.ListN.{length, take, drop, length-append, length-drop}
-use lib.Dec.{eqb}
 use borrow.Author.Tests.{ne_eqb, eq-eqb}
 use Rattle.std.specs.Prelude.{Option, Some, None}
 use Rattle.std.proofs.lemmas.List.{take_all}
@@ -15,11 +14,11 @@ use Rattle.rules.specs.declared.Seven.{Seven}
 use Rattle.rules.specs.Board.{Board}
 use Rattle.rules.specs.Step.{final}
 use Rattle.calls.specs.CallLine.{line_in}
-use Rattle.calls.specs.CallsIn.{unless_malformed, calls_in}
+use Rattle.calls.specs.CallsIn.{calls_in}
 use Rattle.calls.specs.Run.{Run, made, journal, run_of, ◌then_run◌}
 use Rattle.calls.proofs.CallLines.{call_length}
 use Rattle.calls.proofs.Parts.{going, calls_parts, run_parts}
-use Rattle.folder.specs.Outcomes.{whole_run, all_made}
+use Rattle.folder.specs.Outcomes.{whole_run}
 
 -- ---- no more calls than lines
 
@@ -98,8 +97,7 @@ module _ (b₀ b : Board) (n : ℕ) (read text : List ℕ) (size : length read �
       let w : whole_run b₀ (read ++ (s ++ rest)) ≡ (going b text n then_run run_of m b (s ++ rest)) =
       whole b₀ (read ++ (s ++ rest)) (n + m) lines ∙ goes_on m (s ++ rest) in
       let calls = calls_stop s rest most stop in
-      let same = same_run m 1024 b (s ++ rest) s calls in
-      (
+      let same = same_run m 1024 b (s ++ rest) s calls in (
         ap (λ (r : Run). r.board) w ∙ same.0,
         ap (λ (r : Run). r.text) w ∙ ap (λ (t : List ℕ). text ++ t) same.1,
         ap (λ (r : Run). r.lines) w ∙ ap (λ (k : ℕ). n + k) same.2,

@@ -13,11 +13,11 @@ abbrev pub behind : ℕ → ℕ → ℕ → ℕ → Rest
 behind before lines bytes room =
     cond (eqb (43 * lines) bytes) (cond (ltb bytes room) End More) (Malformed (before + lines + 1))
 
--- what making the calls of a piece on a board leaves, 1024 of them at most: the board, how many were made, the rest of
--- the file, and their journal at the front of the buffer
-pub record PieceRan (before room : ℕ) (b : Board) (text : List ℕ) (register : Register) (made : ℕ) (behind_it : Rest)
+-- what making the calls of a piece on a board leaves, 1024 of them at most: the board, how many were made, how the
+-- file goes on, and their journal at the front of the buffer
+pub record PieceRan (before room : ℕ) (b : Board) (text : List ℕ) (register : Register) (made : ℕ) (on : Rest)
     (buffer : List ℕ) : Type 0 where
   pub board : board_of register ≡ (run_of 1024 b text).board
   pub lines : made ≡ (run_of 1024 b text).lines
-  pub rest : behind_it ≡ behind before made (length text) room
+  pub rest : on ≡ behind before made (length text) room
   pub journal : take (55 * made) buffer ≡ (run_of 1024 b text).text

@@ -1,6 +1,6 @@
 -- What opening a plan, making all calls of a file and printing the sheet come to: the boards, and what is written.
 -- Assumes nothing.
-use Rattle.std.specs.Prelude.{ℕ, ◌+◌, ◌*◌, ◌/◌, ◌≡◌, ◌≢◌, Bool, true, false, List, [], ◌∷◌, length, eqb, ⊤}
+use Rattle.std.specs.Prelude.{ℕ, ◌+◌, ◌*◌, ◌/◌, ◌^◌, ◌≤◌, ◌≡◌, ◌≢◌, Bool, true, false, cond, List, [], ◌∷◌, length, eqb, ⊤}
 use Rattle.std.specs.Prelude.{Option, Some, None, Result, Ok, Err}
 use Rattle.std.specs.Io.KnownBytes.{Keeps, Appends}
 use Rattle.columns.specs.Line.{line}
@@ -38,32 +38,67 @@ pub record RanToLine (b : Board) (text : List ℕ) (n : ℕ) : Type 0 where
   pub line : n ≡ (whole_run b text).lines + 1
   pub part : all_made b text ≡ false
 
--- what making the calls of a text on a board comes to: the journal of the calls that were made is written, and the run
--- came to the end or to a malformed line. Nothing is claimed where reading or writing failed.
+-- the text that a reader has left to give: any, where its bytes are not known
+abbrev pub Has : Option (List ℕ) → List ℕ → Type 0
+Has None text = ⊤
+Has (Some bytes) text = bytes ≡ text
+
+-- a reader has a text of 2 ^ 50 pieces of 1024 lines, or more
+abbrev pub IsEndless : Option (List ℕ) → Type 0
+IsEndless had = (calls : List ℕ) × Has had calls × (43 * (1024 * 2 ^ 50) ≤ length calls)
+
+-- what making the calls that a reader has on a board comes to: the journal of those that were made is written, and the
+-- run came to the end or to a malformed line, or the text is too long. Nothing is claimed where reading or writing
+-- failed.
 abbrev pub RanAll
-    : Board → List ℕ → Option (List ℕ) → Option (List ℕ) → Result Register Failure → Type 0
-RanAll b text old new (Ok register) = RanToEnd b text register × Appends old new (whole_run b text).text
-RanAll b text old new (Err (Malformed name line)) = RanToLine b text line × Appends old new (whole_run b text).text
-RanAll b text old new (Err (File name error)) = ⊤
-RanAll b text old new (Err (Endless name)) = ⊤
+    : Board → Option (List ℕ) → Option (List ℕ) → Option (List ℕ) → Result Register Failure → Type 0
+RanAll b had old new (Ok register) =
+    (calls : List ℕ) × Has had calls × RanToEnd b calls register × Appends old new (whole_run b calls).text
+RanAll b had old new (Err (Malformed name line)) =
+    (calls : List ℕ) × Has had calls × RanToLine b calls line × Appends old new (whole_run b calls).text
+RanAll b had old new (Err (File name error)) = ⊤
+RanAll b had old new (Err (Endless name)) = IsEndless had
 
 -- ---- a plan
 
 -- what opening a plan's text comes to: an accepted plan opens its board, and nothing is written; for a refused plan
--- there is no board, and its answer is written, "    20" and a line feed. Nothing is claimed where writing failed.
-abbrev pub PlanOpened : List ℕ → Option (List ℕ) → Option (List ℕ) → Result (Option Register) Failure → Type 0
-PlanOpened text old new (Ok (Some register)) =
+-- there is no board, and its answer is written, "    20" and a line feed
+abbrev pub PlanOpened : List ℕ → Option (List ℕ) → Option (List ℕ) → Option Register → Type 0
+PlanOpened text old new (Some register) =
     (open_answer text ≡ 0) × (board_of register ≡ open_board text) × Keeps old new
-PlanOpened text old new (Ok None) =
-    (open_answer text ≢ 0) × Appends old new (line (6 ∷ []) (open_answer text ∷ []))
-PlanOpened text old new (Err failure) = ⊤
+PlanOpened text old new None = (open_answer text ≢ 0) × Appends old new (line (6 ∷ []) (open_answer text ∷ []))
 
 -- ---- the sheet
 
--- what printing the sheet after the calls of a text comes to: the sheet of the board after them is written, where all of
--- the text are calls; at a malformed line nothing is written. Nothing is claimed where reading or writing failed.
-abbrev pub PageAfter : {A : Type 0} → Board → List ℕ → Option (List ℕ) → Option (List ℕ) → Result A Failure → Type 0
-PageAfter b text old new (Ok done) = (all_made b text ≡ true) × Appends old new (sheet (whole_run b text).board)
-PageAfter b text old new (Err (Malformed name line)) = RanToLine b text line × Keeps old new
-PageAfter b text old new (Err (File name error)) = ⊤
-PageAfter b text old new (Err (Endless name)) = ⊤
+-- what printing the sheet after the calls that a reader has comes to: the sheet of the board after them is written,
+-- where each line is a call; at a malformed line nothing is written. Nothing is claimed where reading or writing
+-- failed.
+abbrev pub PageAfter
+    : {A : Type 0} → Board → Option (List ℕ) → Option (List ℕ) → Option (List ℕ) → Result A Failure → Type 0
+PageAfter b had old new (Ok done) =
+    (calls : List ℕ) × Has had calls × (all_made b calls ≡ true) × Appends old new (sheet (whole_run b calls).board)
+PageAfter b had old new (Err (Malformed name line)) =
+    (calls : List ℕ) × Has had calls × RanToLine b calls line × Keeps old new
+PageAfter b had old new (Err (File name error)) = ⊤
+PageAfter b had old new (Err (Endless name)) = IsEndless had
+
+-- ---- a working folder
+
+-- what is printed of a plan and calls: the answer where the plan is refused, else what its board and the calls give
+abbrev pub printed : (Board → List ℕ → List ℕ) → List ℕ → List ℕ → List ℕ
+printed given plan calls =
+    cond (eqb (open_answer plan) 0) (given (open_board plan) calls) (line (6 ∷ []) (open_answer plan ∷ []))
+
+-- this is written for some plan and some calls, since it is not known what a file holds; where the plan is accepted, all
+-- of the text are calls that were made
+abbrev pub Printed : (Board → List ℕ → List ℕ) → Option (List ℕ) → Option (List ℕ) → Type 0
+Printed given old new =
+    (plan : List ℕ) × (calls : List ℕ) × (open_answer plan ≡ 0 → all_made (open_board plan) calls ≡ true)
+    × Appends old new (printed given plan calls)
+
+-- the journal, and the sheet
+abbrev pub journal_of : Board → List ℕ → List ℕ
+journal_of b calls = (whole_run b calls).text
+
+abbrev pub sheet_of : Board → List ℕ → List ℕ
+sheet_of b calls = sheet (whole_run b calls).board

@@ -1,4 +1,5 @@
 // A working folder opened: the board of its plan, and the file of its calls.
+ghost use Rattle.std.specs.Prelude.{ℕ, List, IfOk, option_map};
 ghost use Rattle.folder.specs.Outcomes.{PlanOpened};
 
 use crate::failure::Failure;
@@ -20,7 +21,7 @@ pub struct Names<'a> {
 
 // Opens the board of a plan's text. Where the plan is refused there is none: its answer is printed.
 fn open_plan<W: Write>(text: &[u8], output: &mut W) -> Result<Option<Board>, Failure<'static>>
-    ensures { PlanOpened text.now (W.contents output.old) (W.contents output.new) result }
+    ensures { IfOk result (PlanOpened text.now (W.contents output.old) (W.contents output.new)) }
 {
     let (board, answer) = Board::open(text);
     match answer {
@@ -38,7 +39,10 @@ pub fn open_folder<'a, R: Files, W: Write>(
     rt: &R,
     names: Names<'a>,
     output: &mut W,
-) -> Result<Option<(Board, R::File)>, Failure<'a>> {
+) -> Result<Option<(Board, R::File)>, Failure<'a>>
+    ensures { IfOk result (λ opened. (plan : List ℕ)
+        × PlanOpened plan (W.contents output.old) (W.contents output.new) (option_map (λ o. o.0) opened)) }
+{
     let mut text = [0; PLAN_SIZE];
     let filled = read_file(rt, names.plan, &mut text);
     filled.check(names.plan)?;

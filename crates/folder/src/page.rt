@@ -1,9 +1,10 @@
 // The shift sheet, printed.
-ghost use Rattle.std.specs.Prelude.{IfSome, OnOk, IfErr};
+ghost use Rattle.std.specs.Prelude.{◌≡◌, OnOk, IfErr};
 ghost use Rattle.std.specs.Io.KnownBytes.{Appends};
+ghost use Rattle.std.specs.Process.{exit_status};
 ghost use Rattle.rules.specs.Board.{board_of};
 ghost use Rattle.rules.specs.Sheet.{sheet};
-ghost use Rattle.folder.specs.Outcomes.{IsFile, PageAfter};
+ghost use Rattle.folder.specs.Outcomes.{IsFile, PageAfter, Printed, sheet_of};
 
 use crate::failure::{Failure, end_run};
 use crate::open_board::Board;
@@ -32,8 +33,8 @@ fn print_page_after<'a, F: Read, W: Write>(
     name: &'a [u8],
     output: &mut W,
 ) -> Result<(), Failure<'a>>
-    ensures { IfSome (F.remaining file.old) (λ calls.
-        PageAfter (board_of opened) calls (W.contents output.old) (W.contents output.new) result) }
+    ensures { PageAfter (board_of opened) (F.remaining file.old) (W.contents output.old) (W.contents output.new)
+        result }
 {
     let board = run_calls(opened, file, name, &mut sink())?;
     print_page(&board, output)
@@ -44,7 +45,9 @@ fn print_folder<'a, R: Files, W: Write>(
     rt: &R,
     names: Names<'a>,
     output: &mut W,
-) -> Result<(), Failure<'a>> {
+) -> Result<(), Failure<'a>>
+    ensures { OnOk result (Printed sheet_of (W.contents output.old) (W.contents output.new)) }
+{
     if let Some((board, mut file)) = open_folder(rt, names, output)? {
         print_page_after(board, &mut file, names.calls, output)?;
     }
@@ -58,6 +61,8 @@ pub fn print_sheet<R: Files, W: Write, E: Write>(
     names: Names,
     output: &mut W,
     errors: &mut E,
-) -> ExitCode {
+) -> ExitCode
+    ensures { exit_status result ≡ 0 → Printed sheet_of (W.contents output.old) (W.contents output.new) }
+{
     end_run(print_folder(rt, names, output), errors)
 }

@@ -1,5 +1,5 @@
 // The calls of a file made in pieces of whole lines, and their journal written as they are made.
-ghost use Rattle.std.specs.Prelude.{◌≡◌, length, IfSome};
+ghost use Rattle.std.specs.Prelude.{◌≡◌, length};
 ghost use Rattle.rules.specs.Board.{board_of};
 ghost use Rattle.folder.specs.Outcomes.{RanAll};
 
@@ -35,8 +35,7 @@ fn run_pieces<'a, F: Read, W: Write>(
     output: &mut W,
 ) -> Result<Board, Failure<'a>>
     requires { (length text.old ≡ 44032) × (length out.old ≡ 56320) }
-    ensures { IfSome (F.remaining file.old) (λ calls.
-        RanAll (board_of opened) calls (W.contents output.old) (W.contents output.new) result) }
+    ensures { RanAll (board_of opened) (F.remaining file.old) (W.contents output.old) (W.contents output.new) result }
 {
     let mut board = opened;
     for piece in 0..MOST_PIECES {
@@ -71,8 +70,7 @@ pub fn run_calls<'a, F: Read, W: Write>(
     name: &'a [u8],
     output: &mut W,
 ) -> Result<Board, Failure<'a>>
-    ensures { IfSome (F.remaining file.old) (λ calls.
-        RanAll (board_of opened) calls (W.contents output.old) (W.contents output.new) result) }
+    ensures { RanAll (board_of opened) (F.remaining file.old) (W.contents output.old) (W.contents output.new) result }
 {
     let mut text = room::<CALLS_SIZE>();
     let mut out = room::<LINES_SIZE>();

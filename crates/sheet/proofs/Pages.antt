@@ -1,10 +1,10 @@
 -- The lines of the live authorities, one authority a turn, and the whole page. Assumes nothing.
-use mathlib.Core.Path.{◌≡◌, refl, sym, ap, ap₂, subst, ◌∙◌}
+use mathlib.Core.Path.{◌≡◌, refl, sym, ap, subst, ◌∙◌}
 use mathlib.Core.Bool.{Bool, true, false, cond}
 use mathlib.Core.List.{List, [], ◌∷◌, ◌++◌, map, map-append, Memᴰ}
 use Prim.Native.Nat.{ℕ, ◌+◌, ◌-◌, ◌*◌, ◌≤◌, ◌<◌}
 use native.Mathlib.Omega.{arith}
-use borrow.Author.Tests.{lt-ltb, le-ltb}
+use borrow.Author.Tests.{lt-ltb}
 use native.Mathlib.Numerals.{add-one}
 use lib.Seq.{take-suc}
 use lib.ListN.{length, take, drop, get_or, length-append, length-drop, length-map}
@@ -95,8 +95,7 @@ module _ (r : Register) (buffer page : List ℕ) (k : Kept r) (h : 2409 ≤ leng
       ap (λ (t : List ℕ). lines ++ (t ∷ [])) (q ∙ ap (cell_line total_widths) c.0) in
       let at : 73 * live + 73 ≡ 73 * (live + 1) = omega arith in
       let printed = printed_next lines last (73 * live) buffer page (omega (arith, page_room)) all
-      (ap length q ∙ total_73 cells c.1) in
-      (
+      (ap length q ∙ total_73 cells c.1) in (
         rw (← is) printed.size ∙ at,
         rw (← is, ← at) printed.bytes,
       )

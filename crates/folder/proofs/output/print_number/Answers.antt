@@ -6,7 +6,8 @@ use Rattle.folder.proofs.output.print_number.Goals as goal
 
 pub returns : goal.returns
 returns g c =
+    let held = g.W.Write.contents in
     let is = number_line c.args.n _ _ _ (rw c.from.ensures at c.write_line.ensures) (search rules) refl in
     subst
-    (λ l. OnOk c.print.result (Appends (g.W.Write.contents c.args.output.now) (g.W.Write.contents c.print.new.output) l))
+    (λ l. OnOk c.print.result (Appends (held c.args.output.now) (held c.print.new.output) l))
     is c.print.ensures.written
