@@ -53,7 +53,7 @@ use Rattle.calls.specs.Run.{made, journal, run_of}
 use Rattle.calls.proofs.Parts.{final_append}
 use Rattle.calls.proofs.RunUses.{Running, RunAsks, running_post, run_asks}
 use Rattle.sheet.proofs.SheetUses.{WritingSheet, SheetAsks, sheet_post, sheet_asks}
-use Rattle.claims.specs.Told.{Told, answers_of, tells, numbers_due, requests}
+use Rattle.claims.specs.Told.{Told, answers_of, tells, numbers_due, count_requests}
 use Rattle.claims.proofs.Counted.{numbers_from_1, last_is_count}
 use Rattle.claims.proofs.Possible.{open_possible, call_possible, run_possible, sheet_possible}
 use Rattle.claims.proofs.Ran.{made_with, Ran, ran_open, ran_call, ran_run}
@@ -205,8 +205,8 @@ module _ {plan : List ℕ} {ms : List Made} {ts : List Told} {r : Register} (h :
   ran_numbered = rw (ran_trace h) (ap (map (λ t. t.number)) (ran_told h) ∙ numbers_from_1 plan ms)
 
   -- and the last number that the register holds is how many REQUESTs were accepted
-  pub ran_last : (board_of r).last.0 ≡ requests (answers_of ts)
-  ran_last = by_rules h (λ b cs. b.last.0 ≡ requests cs) (last_is_count plan ms)
+  pub ran_last : (board_of r).last.0 ≡ count_requests (answers_of ts)
+  ran_last = by_rules h (λ b cs. b.last.0 ≡ count_requests cs) (last_is_count plan ms)
 
   -- ---- demand 3, one claim about the whole list of calls, whose reckoning reads the calls and their answers, and no
   -- register

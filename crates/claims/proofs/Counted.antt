@@ -24,7 +24,7 @@ use Rattle.rules.specs.Effects.{effect}
 use Rattle.rules.specs.Step.{Made, Answered, after, allotted, trace, final}
 use Rattle.rules.proofs.Opening.{fresh}
 use Rattle.board.proofs.Deciding.{request_one, one_request}
-use Rattle.claims.specs.Told.{is_request, numbers_due, requests, tells}
+use Rattle.claims.specs.Told.{is_request, numbers_due, count_requests, tells}
 
 -- ---- the last number, after one call
 
@@ -98,7 +98,7 @@ tells_numbers b (m ∷ ms) =
     go false n l ih = ap (λ (ns : List ℕ). 0 ∷ ns) (ih ∙ ap (λ (k : ℕ). numbers_due k rest) l)
 
 -- THEOREM: and the last number is further by as many as REQUESTs were accepted
-last_counted : (b : Board) (ms : List Made) → (final b ms).last.0 ≡ b.last.0 + requests (trace b ms)
+last_counted : (b : Board) (ms : List Made) → (final b ms).last.0 ≡ b.last.0 + count_requests (trace b ms)
 unfolding trace final
 last_counted b [] = sym (add-zero b.last.0)
 last_counted b (m ∷ ms) =
@@ -125,5 +125,5 @@ numbers_from_1 plan ms =
     tells_numbers (open_board plan) ms ∙ ap (λ (n : ℕ). numbers_due n (trace (open_board plan) ms)) (open_last plan)
 
 pub last_is_count : (plan : List ℕ) (ms : List Made)
-    → (final (open_board plan) ms).last.0 ≡ requests (trace (open_board plan) ms)
+    → (final (open_board plan) ms).last.0 ≡ count_requests (trace (open_board plan) ms)
 last_is_count plan ms = omega (arith, last_counted (open_board plan) ms, open_last plan)

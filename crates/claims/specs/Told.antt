@@ -63,5 +63,5 @@ numbers_due n (c ∷ cs) =
     elim (is_request c) [ true ↦ suc n ∷ numbers_due (suc n) cs | false ↦ 0 ∷ numbers_due n cs ]
 
 -- how many REQUESTs were accepted
-abbrev pub requests : List Answered → ℕ
-requests cs = length (filter is_request cs)
+abbrev pub count_requests : List Answered → ℕ
+count_requests cs = length (filter is_request cs)

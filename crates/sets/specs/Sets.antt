@@ -6,7 +6,7 @@ use Rattle.lists.specs.Search.{any, first, last, keep, below}
 
 -- p is a member of the set
 unfoldable pub has : ℕ → ℕ → Bool
-has p set = eqb (set / 2 ^ p % 2) 1
+has p s = eqb (s / 2 ^ p % 2) 1
 
 -- the set of the numbers below n that pass the test
 unfoldable pub set_of : ℕ → (ℕ → Bool) → ℕ
@@ -26,17 +26,17 @@ up_to n = run 0 n
 
 -- the set with p in it; a number from 64 on is left out
 abbrev pub is_or_in : ℕ → ℕ → ℕ → Bool
-is_or_in p set q = eqb q p || has q set
+is_or_in p s q = eqb q p || has q s
 
 unfoldable pub insert : ℕ → ℕ → ℕ
-insert p set = set_of 64 (is_or_in p set)
+insert p s = set_of 64 (is_or_in p s)
 
 -- the set without p
 abbrev pub is_not_and_in : ℕ → ℕ → ℕ → Bool
-is_not_and_in p set q = not (eqb q p) && has q set
+is_not_and_in p s q = not (eqb q p) && has q s
 
 unfoldable pub remove : ℕ → ℕ → ℕ
-remove p set = set_of 64 (is_not_and_in p set)
+remove p s = set_of 64 (is_not_and_in p s)
 
 -- the two sets share a member
 abbrev pub in_both : ℕ → ℕ → ℕ → Bool
@@ -61,14 +61,14 @@ union a b = set_of 64 (in_either a b)
 
 -- how many members the set has
 abbrev pub is_member : ℕ → ℕ → Bool
-is_member set p = has p set
+is_member s p = has p s
 
 unfoldable pub size : ℕ → ℕ
-size set = length (keep (is_member set) (below 64))
+size s = length (keep (is_member s) (below 64))
 
 -- the least and the greatest member, 64 where there is none: the numbers below 64 stand from the greatest on
 unfoldable pub least : ℕ → ℕ
-least set = last (is_member set) 64 (below 64)
+least s = last (is_member s) 64 (below 64)
 
 unfoldable pub greatest : ℕ → ℕ
-greatest set = first (is_member set) 64 (below 64)
+greatest s = first (is_member s) 64 (below 64)
