@@ -10,14 +10,14 @@ use Rattle.folder.specs.declared.piece.Rest.TheVariants.{More, End, Malformed}
 -- were made, and which has so many lines before it: bytes behind these lines are a malformed line, the next one, and a
 -- piece that does not fill the room is the last
 abbrev pub behind : ℕ → ℕ → ℕ → ℕ → Rest
-behind before lines bytes room =
-    cond (eqb (43 * lines) bytes) (cond (ltb bytes room) End More) (Malformed (before + lines + 1))
+behind before lines got room =
+    cond (eqb (43 * lines) got) (cond (ltb got room) End More) (Malformed (before + lines + 1))
 
 -- what making the calls of a piece on a board leaves, 1024 of them at most: the board, how many were made, how the
 -- file goes on, and their journal at the front of the buffer
-pub record PieceRan (before room : ℕ) (b : Board) (text : List ℕ) (register : Register) (made : ℕ) (on : Rest)
+pub record PieceRan (before room : ℕ) (b : Board) (text : List ℕ) (register : Register) (count : ℕ) (on : Rest)
     (buffer : List ℕ) : Type 0 where
   pub board : board_of register ≡ (run_of 1024 b text).board
-  pub lines : made ≡ (run_of 1024 b text).lines
-  pub rest : on ≡ behind before made (length text) room
-  pub journal : take (55 * made) buffer ≡ (run_of 1024 b text).text
+  pub lines : count ≡ (run_of 1024 b text).lines
+  pub rest : on ≡ behind before count (length text) room
+  pub journal : take (55 * count) buffer ≡ (run_of 1024 b text).text

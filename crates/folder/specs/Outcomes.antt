@@ -15,7 +15,7 @@ use Rattle.folder.specs.declared.failure.Failure.TheVariants.{File, Malformed, E
 -- a file could not be opened, read or written
 abbrev pub IsFile : Failure → Type 0
 IsFile (File name error) = ⊤
-IsFile (Malformed name line) = ⊥
+IsFile (Malformed name n) = ⊥
 IsFile (Endless name) = ⊥
 
 -- ---- the calls of a text, to its end
@@ -41,11 +41,11 @@ pub record RanToLine (b : Board) (text : List ℕ) (n : ℕ) : Type 0 where
 -- the text that a reader has left to give: any, where its bytes are not known
 abbrev pub Has : Option (List ℕ) → List ℕ → Type 0
 Has None text = ⊤
-Has (Some bytes) text = bytes ≡ text
+Has (Some left) text = left ≡ text
 
 -- a reader has a text of 2 ^ 50 pieces of 1024 lines, or more
 abbrev pub IsEndless : Option (List ℕ) → Type 0
-IsEndless had = (calls : List ℕ) × Has had calls × (43 * (1024 * 2 ^ 50) ≤ length calls)
+IsEndless had = (text : List ℕ) × Has had text × (43 * (1024 * 2 ^ 50) ≤ length text)
 
 -- what making the calls that a reader has on a board comes to: the journal of those that were made is written, and the
 -- run came to the end or to a malformed line, or the text is too long. Nothing is claimed where reading or writing
@@ -53,9 +53,9 @@ IsEndless had = (calls : List ℕ) × Has had calls × (43 * (1024 * 2 ^ 50) ≤
 abbrev pub RanAll
     : Board → Option (List ℕ) → Option (List ℕ) → Option (List ℕ) → Result Register Failure → Type 0
 RanAll b had old new (Ok register) =
-    (calls : List ℕ) × Has had calls × RanToEnd b calls register × Appends old new (whole_run b calls).text
-RanAll b had old new (Err (Malformed name line)) =
-    (calls : List ℕ) × Has had calls × RanToLine b calls line × Appends old new (whole_run b calls).text
+    (text : List ℕ) × Has had text × RanToEnd b text register × Appends old new (whole_run b text).text
+RanAll b had old new (Err (Malformed name n)) =
+    (text : List ℕ) × Has had text × RanToLine b text n × Appends old new (whole_run b text).text
 RanAll b had old new (Err (File name error)) = ⊤
 RanAll b had old new (Err (Endless name)) = IsEndless had
 
@@ -76,9 +76,9 @@ PlanOpened text old new None = (open_answer text ≢ 0) × Appends old new (line
 abbrev pub PageAfter
     : {A : Type 0} → Board → Option (List ℕ) → Option (List ℕ) → Option (List ℕ) → Result A Failure → Type 0
 PageAfter b had old new (Ok done) =
-    (calls : List ℕ) × Has had calls × (all_made b calls ≡ true) × Appends old new (sheet (whole_run b calls).board)
-PageAfter b had old new (Err (Malformed name line)) =
-    (calls : List ℕ) × Has had calls × RanToLine b calls line × Keeps old new
+    (text : List ℕ) × Has had text × (all_made b text ≡ true) × Appends old new (sheet (whole_run b text).board)
+PageAfter b had old new (Err (Malformed name n)) =
+    (text : List ℕ) × Has had text × RanToLine b text n × Keeps old new
 PageAfter b had old new (Err (File name error)) = ⊤
 PageAfter b had old new (Err (Endless name)) = IsEndless had
 
@@ -86,19 +86,19 @@ PageAfter b had old new (Err (Endless name)) = IsEndless had
 
 -- what is printed of a plan and calls: the answer where the plan is refused, else what its board and the calls give
 abbrev pub printed : (Board → List ℕ → List ℕ) → List ℕ → List ℕ → List ℕ
-printed given plan calls =
-    cond (eqb (open_answer plan) 0) (given (open_board plan) calls) (line (6 ∷ []) (open_answer plan ∷ []))
+printed given plan text =
+    cond (eqb (open_answer plan) 0) (given (open_board plan) text) (line (6 ∷ []) (open_answer plan ∷ []))
 
 -- this is written for some plan and some calls, since it is not known what a file holds; where the plan is accepted, all
 -- of the text are calls that were made
 abbrev pub Printed : (Board → List ℕ → List ℕ) → Option (List ℕ) → Option (List ℕ) → Type 0
 Printed given old new =
-    (plan : List ℕ) × (calls : List ℕ) × (open_answer plan ≡ 0 → all_made (open_board plan) calls ≡ true)
-    × Appends old new (printed given plan calls)
+    (plan : List ℕ) × (text : List ℕ) × (open_answer plan ≡ 0 → all_made (open_board plan) text ≡ true)
+    × Appends old new (printed given plan text)
 
 -- the journal, and the sheet
 abbrev pub journal_of : Board → List ℕ → List ℕ
-journal_of b calls = (whole_run b calls).text
+journal_of b text = (whole_run b text).text
 
 abbrev pub sheet_of : Board → List ℕ → List ℕ
-sheet_of b calls = sheet (whole_run b calls).board
+sheet_of b text = sheet (whole_run b text).board
