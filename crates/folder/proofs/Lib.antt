@@ -2,3 +2,4 @@ mod PartRead
 mod WholeRuns
 mod FileRuns
 mod NumberLines
+mod Folders

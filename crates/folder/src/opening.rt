@@ -1,6 +1,6 @@
 // A working folder opened: the board of its plan, and the file of its calls.
-ghost use Rattle.std.specs.Prelude.{ℕ, List, IfOk, option_map};
-ghost use Rattle.folder.specs.Outcomes.{PlanOpened};
+ghost use Rattle.std.specs.Prelude.{ℕ, List, IfOk, IfErr, option_map};
+ghost use Rattle.folder.specs.Outcomes.{IsFile, PlanOpened};
 
 use crate::failure::Failure;
 use crate::input::{open, read_file};
@@ -21,7 +21,8 @@ pub struct Names<'a> {
 
 // Opens the board of a plan's text. Where the plan is refused there is none: its answer is printed.
 fn open_plan<W: Write>(text: &[u8], output: &mut W) -> Result<Option<Board>, Failure<'static>>
-    ensures { IfOk result (PlanOpened text.now (W.contents output.old) (W.contents output.new)) }
+    ensures opened { IfOk result (PlanOpened text.now (W.contents output.old) (W.contents output.new)) }
+    ensures failed { IfErr result IsFile }
 {
     let (board, answer) = Board::open(text);
     match answer {
@@ -40,8 +41,9 @@ pub fn open_folder<'a, R: Files, W: Write>(
     names: Names<'a>,
     output: &mut W,
 ) -> Result<Option<(Board, R::File)>, Failure<'a>>
-    ensures { IfOk result (λ opened. (plan : List ℕ)
+    ensures opened { IfOk result (λ opened. (plan : List ℕ)
         × PlanOpened plan (W.contents output.old) (W.contents output.new) (option_map (λ o. o.0) opened)) }
+    ensures failed { IfErr result IsFile }
 {
     let mut text = [0; PLAN_SIZE];
     let filled = read_file(rt, names.plan, &mut text);

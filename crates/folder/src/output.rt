@@ -20,7 +20,8 @@ pub fn print<W: Write>(output: &mut W, text: &[u8]) -> Result<(), Failure<'stati
 
 // Prints a number in 6 columns and a line feed.
 pub fn print_number<W: Write>(output: &mut W, n: u16) -> Result<(), Failure<'static>>
-    ensures { OnOk result (Appends (W.contents output.old) (W.contents output.new) (line (6 ∷ []) (n ∷ []))) }
+    ensures written { OnOk result (Appends (W.contents output.old) (W.contents output.new) (line (6 ∷ []) (n ∷ []))) }
+    ensures failed { IfErr result IsFile }
 {
     let mut line = [b'\n'; 6 + 1];
     columns::write_line(&mut line, &[6], &[u32::from(n)]);

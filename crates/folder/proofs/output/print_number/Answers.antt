@@ -4,8 +4,8 @@ use Rattle.std.specs.Io.KnownBytes.{Appends}
 use Rattle.folder.proofs.NumberLines.{number_line}
 use Rattle.folder.proofs.output.print_number.Goals as goal
 
-pub returns : goal.returns
-returns g c =
+pub returns-clause-written : goal.returns-clause-written
+returns-clause-written g c =
     let held = g.W.Write.contents in
     let is = number_line c.args.n _ _ _ (rw c.from.ensures at c.write_line.ensures) (search rules) refl in
     subst
