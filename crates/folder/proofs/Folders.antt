@@ -1,16 +1,16 @@
 -- What is printed of a working folder, from what opening it and making its calls write. Assumes nothing.
 use Prim.Native.Nat.{ℕ}
 use native.Mathlib.Omega.{arith}
-use mathlib.Core.Path.{◌≡◌, refl, sym, subst, ◌∙◌}
+use mathlib.Core.Path.{◌≡◌, refl}
 use mathlib.Core.Bool.{true}
-use mathlib.Core.List.{List, [], ◌∷◌, ◌++◌}
+use mathlib.Core.List.{List, []}
 use borrow.Author.Tests.{ne_eqb}
 use Rattle.std.specs.Prelude.{Option, Some, None, Result, Ok, Err, IsErr, OnOk}
 use Rattle.std.specs.Io.KnownBytes.{Keeps, Appends}
 use Rattle.rules.specs.declared.Register.{Register}
 use Rattle.rules.specs.Board.{Board, board_of}
-use Rattle.rules.specs.Plan.{open_board, open_answer}
-use Rattle.folder.specs.Outcomes.{all_made, PlanOpened, printed, Printed}
+use Rattle.rules.specs.Plan.{open_answer}
+use Rattle.folder.specs.Outcomes.{all_made, PlanOpened, Printed}
 
 kept_appends : (a b c : Option (List ℕ)) (bs : List ℕ) → Keeps a b → Appends b c bs → Appends a c bs
 kept_appends None b c bs k h = tt
