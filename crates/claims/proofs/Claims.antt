@@ -106,8 +106,8 @@ pub ran_trace : {plan : List ℕ} {ms : List Made} {ts : List Told} {r : Registe
     → answers_of ts ≡ trace (open_board plan) ms
 ran_trace {plan} {ms} h = ap answers_of (ran_told h) ∙ tells_trace (open_board plan) ms
 
--- the calls decide all, whether they are made one by one or as texts (with room for a line, 55 bytes, each), in whatever
--- parts
+-- the calls decide all, whether they are made one by one or as texts (with room for a line, 55 bytes, each), in
+-- whatever parts
 pub ran_decided : {plan : List ℕ} {ms : List Made} {ts ts' : List Told} {r r' : Register} → Ran plan ms ts r
     → Ran plan ms ts' r' → (board_of r' ≡ board_of r) × (ts' ≡ ts)
 ran_decided h k = (ran_board k ∙ sym (ran_board h), ran_told k ∙ sym (ran_told h))

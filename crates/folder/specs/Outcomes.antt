@@ -1,7 +1,7 @@
 -- What opening a plan, making all calls of a file and printing the sheet come to: the boards, and what is written.
 -- Assumes nothing.
-use Rattle.std.specs.Prelude.{ℕ, ◌+◌, ◌*◌, ◌/◌, ◌^◌, ◌≤◌, ◌≡◌, ◌≢◌, Bool, true, false, cond, List, [], ◌∷◌, length, eqb, ⊤}
-use Rattle.std.specs.Prelude.{Option, Some, None, Result, Ok, Err}
+use Rattle.std.specs.Prelude.{ℕ, ◌+◌, ◌*◌, ◌/◌, ◌^◌, ◌≤◌, ◌≡◌, ◌≢◌, Bool, true, false, cond, List, [], ◌∷◌, length}
+use Rattle.std.specs.Prelude.{eqb, ⊤, Option, Some, None, Result, Ok, Err}
 use Rattle.std.specs.Io.KnownBytes.{Keeps, Appends}
 use Rattle.columns.specs.Line.{line}
 use Rattle.rules.specs.declared.Register.{Register}
@@ -89,8 +89,8 @@ abbrev pub printed : (Board → List ℕ → List ℕ) → List ℕ → List ℕ
 printed given plan text =
     cond (eqb (open_answer plan) 0) (given (open_board plan) text) (line (6 ∷ []) (open_answer plan ∷ []))
 
--- this is written for some plan and some calls, since it is not known what a file holds; where the plan is accepted, all
--- of the text are calls that were made
+-- this is written for some plan and some calls, since it is not known what a file holds; where the plan is accepted,
+-- all of the text are calls that were made
 abbrev pub Printed : (Board → List ℕ → List ℕ) → Option (List ℕ) → Option (List ℕ) → Type 0
 Printed given old new =
     (plan : List ℕ) × (text : List ℕ) × (open_answer plan ≡ 0 → all_made (open_board plan) text ≡ true)

@@ -135,8 +135,8 @@ pub record Cases : Type 0 where
   -- E10: "a pending TOA over a TWA in force: 13"
   pub e10 : on_blocked (at 1 1 3 1 1 7 ∷ at 1 6 1 7 0 0 ∷ at 1 1 2 0 2 8 ∷ at 1 6 2 8 0 0 ∷ [])
       ≡ 0 ∷ 0 ∷ 0 ∷ 0 ∷ 0 ∷ 0 ∷ 0 ∷ 13 ∷ []
-  -- order 1: the six calls of E1 to E6 with an LPA in the first, byte for byte. It has no term, so E4 answers 22, and E5
-  -- 0, since the gate is not needed.
+  -- order 1: the six calls of E1 to E6 with an LPA in the first, byte for byte. It has no term, so E4 answers 22, and
+  -- E5 0, since the gate is not needed.
   pub lpa : printed (Plan.open_board plan_text)
       (at 2200 1 1 1 1 7 ∷ at 2201 6 1 7 0 0 ∷ at 2202 4 1 0 0 0 ∷ at 2203 6 1 7 0 0 ∷ at 2204 5 1 0 0 0
       ∷ at 2260 5 1 0 0 0 ∷ [])

@@ -162,8 +162,11 @@ last_night = record {
 
 unfoldable pub last_night_bytes : List ℕ
 last_night_bytes =
-    bytes
-    "       1      1       2       3      42       2       1      -55       0\n       3      2       0       1      63       2       1                0\n       4      3       1       1       7       2       2                3\n    9999      1      63      63     999       1       2                0\n        4        3                                                      \n"
+    bytes "       1      1       2       3      42       2       1      -55       0\n"
+    ++ bytes "       3      2       0       1      63       2       1                0\n"
+    ++ bytes "       4      3       1       1       7       2       2                3\n"
+    ++ bytes "    9999      1      63      63     999       1       2                0\n"
+    ++ bytes "        4        3                                                      \n"
 
 pub last_night-sheet : sheet last_night ≡ last_night_bytes
 unfolding sheet page_of sheet_lines authority_line authority_cells minutes_in_hand difference total_line total_cells
