@@ -10,7 +10,7 @@ ghost use Rattle.trains.specs.Trains.{SearchesEnds};
 use rules::{Authority, AuthorityNo, Kind, Train, TrainNo};
 
 // The first train that passes the test by one of its ends, its head or its rear.
-// Kept: loops with a label, as document 01 names the form of these searches.
+// Kept: a loop with a label, as document 01 names the form of this search.
 #[tactic(auto, unfolding(crate::specs::Trains::SearchesEnds))]
 fn search_ends<F: Fn(Train, u16) -> bool>(trains: &[Train], passes: F) -> Option<Train>
     requires { F.IsAlwaysCallable passes }
