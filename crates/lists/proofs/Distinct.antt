@@ -1,15 +1,15 @@
 -- Numbers of elements: free, kept by a change, taken; and what distinct numbers tell. Assumes nothing.
 use Prim.Native.Nat.{ℕ}
 use mathlib.Core.Path.{◌≡◌, refl, sym, ◌∙◌}
-use mathlib.Core.Logic.{◌⊎◌, inl, inr}
+use mathlib.Core.Logic.{◌⊎◌, inl, inr, ⊎_elim}
 use mathlib.Core.Bool.{Bool, true, false, cond}
 use mathlib.Core.List.Memᴰ
 use mathlib.Core.List.{List, [], ◌∷◌}
 use borrow.Author.Tests.{eq-eqb}
-use Rattle.lists.specs.Search.{any, keep, change}
+use Rattle.lists.specs.Search.{any, keep, change, change_first}
 use Rattle.lists.specs.Distinct.{numbered, Distinct}
-use Rattle.lists.proofs.Tests.{clash}
-use Rattle.lists.proofs.Search.{Member, any_no, keeps, changes_to, changed}
+use Rattle.lists.proofs.Tests.{truth, clash}
+use Rattle.lists.proofs.Search.{Member, any_no, any_none, keeps, changes_to, changed, change_none}
 
 module _ {A : Type 0} (number : A → ℕ) where
   -- no element has the number n
@@ -60,3 +60,26 @@ module _ {A : Type 0} (number : A → ℕ) where
   one_of_number [] u x y m k e = elim m [ ]
   one_of_number (z ∷ zs) u x y m k e =
       pick z zs u.0 x y e (λ p q. one_of_number zs u.1 x y p q e) (Memᴰ.cases_cons m) (Memᴰ.cases_cons k)
+
+  -- ---- and where a test passes only the elements with one number, the first that it passes is the only one
+
+  module _ (test : A → Bool) (f : A → A) (n : ℕ) (only : (x : A) → test x ≡ true → number x ≡ n) where
+    none_behind : (x : A) (xs : List A) → Free (number x) xs → test x ≡ true → any test xs ≡ false
+    none_behind x xs h e =
+        any_none test xs
+        (λ y m. ⊎_elim (λ k. absurd (other y m (only y k ∙ sym (only x e)))) (λ k. k) (truth (test y)))
+      where
+        other : (y : A) → Member y xs → number y ≡ number x → ⊥
+        other y m k = clash (eq-eqb (number y) (number x) k) (any_no (numbered number (number x)) xs h y m)
+
+    stops_step : (x : A) (xs : List A) (t : Bool) → test x ≡ t → Free (number x) xs
+        → change_first test f xs ≡ change test f xs
+        → cond t (f x ∷ xs) (x ∷ change_first test f xs) ≡ cond t (f x) x ∷ change test f xs
+    stops_step x xs true e h ih = rw (change_none test f xs (none_behind x xs h e)) refl
+    stops_step x xs false e h ih = rw ih refl
+
+    -- THEOREM: to change the first and stop is to change each
+    pub change_first-change : (xs : List A) → Distinct number xs → change_first test f xs ≡ change test f xs
+    unfolding Distinct change change_first
+    change_first-change [] u = refl
+    change_first-change (x ∷ xs) u = stops_step x xs (test x) refl u.0 (change_first-change xs u.1)

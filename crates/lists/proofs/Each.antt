@@ -1,8 +1,13 @@
 -- Laws of two lists that a relation ties element by element. Assumes nothing.
 use Rattle.std.proofs.Common.{◌≡◌, refl, inl, inr, Bool, true, false, cond, ℕ, zero, suc, ◌<◌, List, [], ◌∷◌, take}
-use Rattle.std.proofs.Common.{drop, set, length, get_or, arith, subst}
-use Rattle.lists.specs.Each.{EachGives, ChangesTo, ChangedWhere}
-use Rattle.lists.specs.Search.{change}
+use Rattle.std.proofs.Common.{drop, set, length, get_or, arith, subst, take_at, take_all, length-set, ◌≤◌, ◌∙◌, ap, sym}
+use Rattle.std.specs.List.{refill}
+use borrow.Author.Tests.{eqb-true}
+use Rattle.lists.specs.Each.{EachGives, ChangesTo, ChangedWhere, FirstChanged}
+use Rattle.lists.specs.Search.{any, change}
+use Rattle.lists.specs.Distinct.{numbered, Distinct}
+use Rattle.lists.proofs.Search.{Each, change_first_none, change_first_at}
+use Rattle.lists.proofs.Distinct.{change_first-change}
 
 module _ {A : Type 0} where
   step : (P : A → Bool → Type 0) (F : A → A → Type 0) (test : A → Bool) (f : A → A)
@@ -41,3 +46,47 @@ module _ {A : Type 0} where
   each_turn R (suc i) (z ∷ xs) (y ∷ ys) d v l gives e rest =
       let later = each_turn R i xs ys d v (omega arith) gives e.1 rest in
       ((e.0, later.0), later.1)
+
+  -- ---- the loop that changes the first and stops
+
+  -- the answers false of the test, on each element
+  none_pass : (P : A → Bool → Type 0) (test : A → Bool) → ((x : A) (b : Bool) → P x b → b ≡ test x) → (xs : List A)
+      → Each (λ x. P x false) xs → any test xs ≡ false
+  none_pass P test tests [] h = refl
+  none_pass P test tests (x ∷ xs) h = rw (← tests x false h.0) (none_pass P test tests xs h.1)
+
+  refilled : (xs ys : List A) → length ys ≡ length xs → refill (length xs) xs ys ≡ ys
+  refilled xs ys e = take_at ys (drop (length ys) xs) (length xs) e
+
+  -- the loop stops at place i, where nothing is changed yet
+  pub first_at : (P : A → Bool → Type 0) (F : A → A → Type 0) (xs ys : List A) (i : ℕ) (d v : A) → i < length ys
+      → (ys ≡ xs) × Each (λ x. P x false) (take i xs) → P (get_or ys i d) true → F (get_or ys i d) v
+      → FirstChanged P F xs (refill (length xs) xs (set ys i v))
+  first_at P F xs ys i d v l (same, before) passes gives = record {
+    by =
+        λ test f tests changes.
+        rw same
+        (refilled xs (set xs i v) (length-set xs i v)
+        ∙ ap (set xs i) (changes (get_or xs i d) v (rw same at gives))
+        ∙ sym (change_first_at test f d xs i (rw same at l) (none_pass P test tests (take i xs) before)
+        (sym (tests (get_or xs i d) true (rw same at passes)))));
+  }
+
+  -- the loop ends, and none has passed
+  pub first_nowhere : (P : A → Bool → Type 0) (F : A → A → Type 0) (xs ys : List A) (i : ℕ) → length ys ≤ i
+      → (ys ≡ xs) × Each (λ x. P x false) (take i xs) → FirstChanged P F xs (refill (length xs) xs ys)
+  first_nowhere P F xs ys i l (same, before) = record {
+    by =
+        λ test f tests changes.
+        let all : Each (λ x. P x false) xs = rw (take_all i xs (rw same at l)) at before in
+        rw same (refilled xs xs refl ∙ sym (change_first_none test f xs (none_pass P test tests xs all)));
+  }
+
+  -- where the test passes the elements with number n, and numbers are distinct, the list is the one with each of those
+  -- changed
+  pub changed-one : {P : A → Bool → Type 0} {F : A → A → Type 0} {xs ys : List A} (number : A → ℕ) (n : ℕ) (f : A → A)
+      → FirstChanged P F xs ys → Distinct number xs → ((x : A) (b : Bool) → P x b → b ≡ numbered number n x)
+      → ((x y : A) → F x y → y ≡ f x) → ys ≡ change (numbered number n) f xs
+  changed-one {xs = xs} number n f e distinct tests gives =
+      e.by (numbered number n) f tests gives
+      ∙ change_first-change number (numbered number n) f n (λ x h. eqb-true (number x) n h) xs distinct

@@ -6,6 +6,7 @@ use mathlib.Core.List.{List, [], ◌∷◌}
 use Rattle.std.specs.Prelude.{Option, Some, None, find, is_some}
 use Rattle.std.specs.Option.{unwrap_or}
 use Rattle.lists.specs.Search.{any, first}
+use Rattle.lists.proofs.Tests.{or_no_l, or_no_r}
 
 -- ---- a search
 
@@ -77,6 +78,12 @@ module _ {A : Type 0} (test : A → Bool) where
   pub found_none : (l : List A) → find test l ≡ None → any test l ≡ false
   found_none [] e = refl
   found_none (x ∷ xs) e = search_none find_searches some_tells x (x ∷ xs) e
+
+  -- no element passes: it finds none
+  pub finds_none : (l : List A) → any test l ≡ false → None ≡ find test l
+  finds_none [] e = refl
+  finds_none (x ∷ xs) e =
+      rw (or_no_l (test x) (any test xs) e) (finds_none xs (or_no_r (test x) (any test xs) e))
 
   -- it finds one just where some element passes
   pub found_any : (l : List A) → is_some (find test l) ≡ any test l

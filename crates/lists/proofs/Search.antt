@@ -9,10 +9,17 @@ use mathlib.Core.Logic.{◌⊎◌, inl, inr, ⊎_elim}
 use mathlib.Core.Bool.{Bool, true, false, cond, ◌||◌, false≢true, or_assoc}
 use mathlib.Core.List.Memᴰ
 use mathlib.Core.List.{List, [], ◌∷◌, ◌++◌, Memᴰ}
-use lib.ListN.{length, get_or}
-use Rattle.lists.specs.Search.{any, first, last, keep, change, below}
+use lib.ListN.{length, get_or, take, set}
+use Rattle.lists.specs.Search.{any, first, last, keep, change, change_first, below}
 use Rattle.std.proofs.lemmas.Bool.{cond_both, or_from}
 use Rattle.lists.proofs.Tests.{truth, clash, or_no_l, or_no_r}
+
+-- two tests on an element, or on those behind it, in either order
+or_each : (a b c d : Bool) → ((a || c) || (b || d)) ≡ ((a || b) || (c || d))
+or_each true b c d = refl
+or_each false b false d = refl
+or_each false true true d = refl
+or_each false false true d = refl
 
 module _ {A : Type 0} where
   abbrev pub Member : A → List A → Type 0
@@ -37,6 +44,12 @@ module _ {A : Type 0} where
   any_append test [] ys = refl
   any_append test (x ∷ xs) ys =
       ap (λ (b : Bool). test x || b) (any_append test xs ys) ∙ sym (or_assoc (test x) (any test xs) (any test ys))
+
+  -- an element passes one of two tests where one passes the test that is either of them
+  pub any_or : (f g test : A → Bool) (xs : List A) → ((x : A) → (f x || g x) ≡ test x)
+      → (any f xs || any g xs) ≡ any test xs
+  any_or f g test [] e = refl
+  any_or f g test (x ∷ xs) e = or_each (f x) (g x) (any f xs) (any g xs) ∙ rw (e x, any_or f g test xs e)
 
   -- ---- the first that passes
 
@@ -104,6 +117,20 @@ module _ {A : Type 0} where
   length_step true x xs n h = omega arith
   length_step false x xs n h = omega arith
 
+  any_keep_step : (has test : A → Bool) (x : A) (xs : List A) → (test x ≡ false → has x ≡ false) → (t : Bool)
+      → test x ≡ t
+      → any has (cond t (x ∷ keep test xs) (keep test xs)) ≡ (has x || any has (keep test xs))
+  any_keep_step has test x xs h true e = refl
+  any_keep_step has test x xs h false e = sym (ap (λ (b : Bool). b || any has (keep test xs)) (h e))
+
+  -- where what is left out fails another test, some element passes that one as before
+  pub any_keep : (has test : A → Bool) (xs : List A) → ((x : A) → Member x xs → test x ≡ false → has x ≡ false)
+      → any has (keep test xs) ≡ any has xs
+  any_keep has test [] h = refl
+  any_keep has test (x ∷ xs) h =
+      any_keep_step has test x xs (h x (Memᴰ.head refl)) (test x) refl
+      ∙ ap (λ (b : Bool). has x || b) (any_keep has test xs (λ y m. h y (Memᴰ.tail m)))
+
   pub length-keep : (test : A → Bool) (xs : List A) → length (keep test xs) ≤ length xs
   length-keep test [] = omega arith
   length-keep test (x ∷ xs) = length_step (test x) x (keep test xs) (length xs) (length-keep test xs)
@@ -151,10 +178,49 @@ module _ {A : Type 0} where
   change_append test f [] ys = refl
   change_append test f (x ∷ xs) ys = ap (λ (l : List A). changed test f x ∷ l) (change_append test f xs ys)
 
+  -- where f keeps another test of what it changes, some element passes that one as before
+  pub any_change : (has test : A → Bool) (f : A → A) (xs : List A)
+      → ((x : A) → Member x xs → test x ≡ true → has (f x) ≡ has x)
+      → any has (change test f xs) ≡ any has xs
+  unfolding change
+  any_change has test f [] same = refl
+  any_change has test f (x ∷ xs) same =
+      ap (λ (b : Bool). b || any has (change test f xs))
+      (cond_both (test x) (f x) x (λ y. has y ≡ has x) (same x (Memᴰ.head refl)) (λ e. refl))
+      ∙ ap (λ (b : Bool). has x || b) (any_change has test f xs (λ y m. same y (Memᴰ.tail m)))
+
   pub length-change : (test : A → Bool) (f : A → A) (xs : List A) → length (change test f xs) ≡ length xs
   unfolding change
   length-change test f [] = refl
   length-change test f (x ∷ xs) = ap suc (length-change test f xs)
+
+  -- where none passes
+  pub change_none : (test : A → Bool) (f : A → A) (xs : List A) → any test xs ≡ false → change test f xs ≡ xs
+  unfolding change
+  change_none test f [] h = refl
+  change_none test f (x ∷ xs) h =
+      rw (or_no_l (test x) (any test xs) h, change_none test f xs (or_no_r (test x) (any test xs) h))
+
+  -- ---- the first that passes, changed
+
+  pub change_first_none : (test : A → Bool) (f : A → A) (xs : List A) → any test xs ≡ false
+      → change_first test f xs ≡ xs
+  unfolding change_first
+  change_first_none test f [] h = refl
+  change_first_none test f (x ∷ xs) h =
+      rw (or_no_l (test x) (any test xs) h, change_first_none test f xs (or_no_r (test x) (any test xs) h))
+
+  -- by its place: none before it passes
+  pub change_first_at : (test : A → Bool) (f : A → A) (d : A) (xs : List A) (i : ℕ) → i < length xs
+      → any test (take i xs) ≡ false → test (get_or xs i d) ≡ true
+      → change_first test f xs ≡ set xs i (f (get_or xs i d))
+  unfolding change_first
+  change_first_at test f d [] i l before h = absurd (omega arith)
+  change_first_at test f d (x ∷ xs) zero l before h = rw h refl
+  change_first_at test f d (x ∷ xs) (suc i) l before h =
+      rw (or_no_l (test x) (any test (take i xs)) before)
+      (ap (λ (ys : List A). x ∷ ys)
+      (change_first_at test f d xs i (omega arith) (or_no_r (test x) (any test (take i xs)) before) h))
 
 -- ---- every element, by its place
 

@@ -1,5 +1,6 @@
 -- Two lists, element by element. Assumes nothing.
 use Rattle.std.specs.Prelude.{◌≡◌, ◌⊎◌, Bool, true, false, List, [], ◌∷◌}
+use Rattle.lists.specs.Search.{change_first}
 
 module _ {A : Type 0} where
   -- the lists have one length, and each element of the second is one that the relation gives for the element in its
@@ -16,3 +17,9 @@ module _ {A : Type 0} where
 
   pub record ChangedWhere (P : A → Bool → Type 0) (F : A → A → Type 0) (xs ys : List A) : Type 0 where
     pub each : EachGives (ChangesTo P F) xs ys
+
+  -- The first element that the test answers true for became one that F gives; the others stay. Where the test answers
+  -- as a function does, and F gives what a function does, the list is the one that these change.
+  pub record FirstChanged (P : A → Bool → Type 0) (F : A → A → Type 0) (xs ys : List A) : Type 0 where
+    pub by : (test : A → Bool) (f : A → A) → ((x : A) (b : Bool) → P x b → b ≡ test x)
+        → ((x y : A) → F x y → y ≡ f x) → ys ≡ change_first test f xs

@@ -26,6 +26,11 @@ module _ {A : Type 0} where
   change test f [] = []
   change test f (x ∷ xs) = cond (test x) (f x) x ∷ change test f xs
 
+  -- the first element that passes the test is changed by f, in its place; the others stay
+  unfoldable pub change_first : (A → Bool) → (A → A) → List A → List A
+  change_first test f [] = []
+  change_first test f (x ∷ xs) = cond (test x) (f x ∷ xs) (x ∷ change_first test f xs)
+
 -- the numbers below n, from the greatest on
 unfoldable pub below : ℕ → List ℕ
 below zero = []

@@ -21,7 +21,7 @@ use Rattle.std.proofs.lemmas.Bool.{and_from, or_cases, not-true, not-false}
 use Rattle.lists.proofs.Tests.{told, lt_or_le, truth, clash, same_test, and_l, and_r, and_no_r}
 use Rattle.sets.specs.Sets.{has, set_of, between, run, is_or_in, insert, is_not_and_in, remove, in_both, shares}
 use Rattle.sets.specs.Sets.{in_first_only, subset}
-use Rattle.sets.specs.Sets.{in_either, union, is_member, size}
+use Rattle.sets.specs.Sets.{in_either, union, difference, is_member, size}
 use Rattle.sets.proofs.Bits.{digit, same_members, has_none, has_high, has_and, has_or, has_power}
 
 -- ---- the set of the numbers below n that pass the test
@@ -73,7 +73,7 @@ pub set_of_agree : (n : ℕ) (f g : ℕ → Bool) → ((p : ℕ) → p < n → f
 set_of_agree n f g same = is_set_of n (set_of n f) g (set_of_lt n f) (λ p l. in_set_of n f p l ∙ same p l)
 
 -- where no number from n on passes, every member is known by the test alone
-closed_set_of : (n : ℕ) (test : ℕ → Bool) (p : ℕ) → (n ≤ p → test p ≡ false) → has p (set_of n test) ≡ test p
+pub closed_set_of : (n : ℕ) (test : ℕ → Bool) (p : ℕ) → (n ≤ p → test p ≡ false) → has p (set_of n test) ≡ test p
 closed_set_of n test p out =
     ⊎_elim (in_set_of n test p) (λ (l : n ≤ p). has_high n p (set_of n test) (set_of_lt n test) l ∙ sym (out l))
     (lt_or_le p n)
@@ -141,6 +141,11 @@ in_remove p set q e =
 pub has-union : (a b p : ℕ) → p < 64 → has p (union a b) ≡ (has p a || has p b)
 unfolding union
 has-union a b p l = in_set_of 64 (in_either a b) p l
+
+-- and of the first without the second where the first alone has it
+pub has-difference : (a b p : ℕ) → p < 64 → has p (difference a b) ≡ (has p a && not (has p b))
+unfolding difference
+has-difference a b p l = in_set_of 64 (in_first_only a b) p l
 
 -- ---- a loop that builds the set of the numbers that pass, one number a turn
 

@@ -59,6 +59,10 @@ in_either a b p = has p a || has p b
 unfoldable pub union : ℕ → ℕ → ℕ
 union a b = set_of 64 (in_either a b)
 
+-- the members of a that b has not
+unfoldable pub difference : ℕ → ℕ → ℕ
+difference a b = set_of 64 (in_first_only a b)
+
 -- how many members the set has
 abbrev pub is_member : ℕ → ℕ → Bool
 is_member s p = has p s

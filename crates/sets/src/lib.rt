@@ -65,6 +65,13 @@ pub fn union(a: u64, b: u64) -> u64
     a | b
 }
 
+// The members of a that b has not.
+pub fn difference(a: u64, b: u64) -> u64
+    ensures { result ≡ Sets.difference a b }
+{
+    a & !b
+}
+
 // How many members the set has: the count of ones.
 pub fn size(set: u64) -> u32
     ensures { result ≡ Sets.size set }

@@ -1,3 +1,4 @@
+-- The loop of `lists::change`. Assumes nothing.
 use Rattle.std.proofs.Common.{take, drop, ◌≡◌}
 use Rattle.lists.specs.Each.{EachGives, ChangesTo}
 use Rattle.lists.proofs.change.Given as goal
