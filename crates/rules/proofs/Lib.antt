@@ -16,4 +16,8 @@ pub mod Stays
 pub mod Agreements
 pub mod Terms
 pub mod Bookings
+pub mod HeldSets
+pub mod SetsStay
 pub mod Sheets
+pub mod SortsKept
+pub mod SetsShown

@@ -1,34 +1,38 @@
 -- The shift sheet (02, order 2): first and last are those of the REQUEST after every list of calls; its lines ascend
--- (order 5); the ninth column is the agreement that is reckoned (order 7); and a page worked out, byte for byte.
--- Assumes nothing.
+-- (order 5); the ninth column is the agreement that is reckoned (order 7); the portions held are those of the two sets
+-- (order 8); and a page worked out, byte for byte. Assumes nothing.
 use Prim.Native.Nat.{ℕ, zero, suc, ◌<◌}
 use native.Mathlib.Omega.{arith}
 use mathlib.Core.Path.{◌≡◌, refl, sym, ap}
 use mathlib.Core.Logic.{⊎_elim}
-use mathlib.Core.Bool.{true, false}
+use mathlib.Core.Bool.{Bool, true, false, ◌&&◌, ◌||◌, or-false}
 use mathlib.Core.List.{List, [], ◌∷◌, ◌++◌, map}
 use lib.ListN.{length, get_or}
 use Rattle.lists.specs.Search.{first, last, below}
 use Rattle.lists.proofs.Tests.{truth}
 use Rattle.lists.specs.Order.{Ascending}
-use Rattle.lists.proofs.Search.{Member}
+use Rattle.lists.proofs.Search.{Member, any_or}
 use Rattle.lists.proofs.Order.{ascending_at}
 use Rattle.columns.specs.Text.{bytes}
 use Rattle.columns.specs.Column.{digits_in, digits}
 use Rattle.columns.specs.declared.cells.Cell.TheVariants.{Empty, Number}
 use Rattle.columns.specs.Line.{line_of}
 use Rattle.columns.specs.Cells.{difference, marks, cell}
-use Rattle.sets.specs.Sets.{has, set_of, run, size, least, greatest}
+use Rattle.sets.specs.Sets.{has, set_of, run, in_either, union, size, least, greatest}
+use Rattle.sets.proofs.Laws.{in_set_of, set_of_agree}
 use Rattle.sets.proofs.Ends.{least_is, greatest_is}
+use Rattle.rules.specs.declared.kind.Kind.{Kind}
 use Rattle.rules.specs.declared.kind.Kind.TheVariants.{Lpa, Toa, Twa}
 use Rattle.rules.specs.declared.Authority.{Authority}
-use Rattle.rules.specs.Board.{Board, no_authority, authority_no}
+use Rattle.rules.specs.Board.{Board, exclusive, is_twa, is_in_force, no_authority, authority_no}
 use Rattle.rules.specs.Call.{authority_of, minute_of}
+use Rattle.rules.specs.Refusals.{is_e, is_w, any_e, any_w}
 use Rattle.rules.specs.Plan.{open_board}
 use Rattle.rules.specs.Step.{Made, trace, final}
 use Rattle.rules.specs.Reckoning.{Reckoned, at_start, agreement, reckoned}
-use Rattle.rules.specs.Sheet.{now_of, minutes_in_hand, authority_cells, authority_line, held_portions, total_cells}
-use Rattle.rules.specs.Sheet.{total_line, sheet_lines, page_of, sheet}
+use Rattle.rules.specs.Sheet.{now_of, minutes_in_hand, authority_cells, authority_line, holds, is_held, held_portions}
+use Rattle.rules.specs.Sheet.{total_cells, total_line, sheet_lines, page_of, sheet}
+use Rattle.rules.specs.Stored.{exclusive_portions, twa_portions}
 use Rattle.rules.proofs.Follows.{Held}
 use Rattle.rules.proofs.Safety.{list_follows}
 use Rattle.rules.proofs.Agreements.{list_agreements}
@@ -96,6 +100,25 @@ pub agreement_shown : (text : List ℕ) (ms : List Made) (now : ℕ) (a : Author
     get_or (authority_cells now a) 8 Empty ≡ Number (agreement x)
 unfolding authority_cells
 agreement_shown text ms now a m = ap Number (list_agreements text ms a m).number
+
+-- ---- the portions held (02, order 8)
+
+-- the authority has the portion as an exclusive one, or as a TWA, where it holds it
+of_a_sort : (k : Kind) (force has_it : Bool)
+    → ((force && exclusive k && has_it) || (force && is_twa k && has_it)) ≡ (force && has_it)
+of_a_sort k false has_it = refl
+of_a_sort Lpa true has_it = or-false has_it
+of_a_sort Toa true has_it = or-false has_it
+of_a_sort Twa true has_it = refl
+
+-- THEOREM: the portions held are those of the exclusive authorities in force and those of the TWAs in force
+pub held_by_sort : (b : Board) → union (exclusive_portions b) (twa_portions b) ≡ held_portions b.authorities
+unfolding union exclusive_portions twa_portions any_e any_w is_e is_w held_portions
+held_by_sort b =
+    set_of_agree 64 (in_either (exclusive_portions b) (twa_portions b)) (is_held b.authorities)
+    (λ p l.
+    rw (in_set_of 64 (any_e b) p l, in_set_of 64 (any_w b) p l)
+    (any_or (is_e p) (is_w p) (holds p) b.authorities (λ a. of_a_sort a.kind (is_in_force a) (has p a.limits))))
 
 -- ---- a page
 

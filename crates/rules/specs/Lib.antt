@@ -1,4 +1,4 @@
--- Document 01, with 02's orders 1 to 7, as definitions, in reading order. What a reader of the contracts must believe
+-- Document 01, with 02's orders 1 to 8, as definitions, in reading order. What a reader of the contracts must believe
 -- stands here.
 pub mod Board
 pub mod Call
@@ -8,6 +8,7 @@ pub mod Plan
 pub mod Journal
 pub mod Sheet
 pub mod Answer
+pub mod Stored
 pub mod Step
 pub mod Reckoning
 pub mod Claim

@@ -11,6 +11,7 @@ use Rattle.rules.specs.Board.{Board, board_of, with_stamp, authority_no, train_n
 use Rattle.rules.specs.Call.{named}
 use Rattle.rules.specs.Refusals.{answer}
 use Rattle.rules.specs.Effects.{effect, next_no}
+use Rattle.rules.specs.Stored.{Stored, SortsApart}
 use Rattle.rules.specs.Plan.{open_board, open_answer}
 use Rattle.rules.specs.Journal.{line_after}
 use Rattle.rules.specs.Answer.{answer_no, number_no, is_numbered}
@@ -74,11 +75,14 @@ abbrev pub Starts : Board → Type 0
 Starts b = (a : Authority) → Memᴰ a b.authorities → a.start < 10000 * 1440
 
 -- what holds of every register that opening or a call returned: its lists are within what they can hold, what they hold
--- is held once, by ascending number, and terms start within the days
+-- is held once, by ascending number, terms start within the days; and the three sets (02, order 8) are those that the
+-- live authorities give, of which two in force of one sort share no portion
 pub record Kept (r : Register) : Type 0 where
   pub bounds : Bounds r
   pub once : Once (board_of r)
   pub starts : Starts (board_of r)
+  pub stored : Stored r
+  pub sorts : SortsApart (board_of r)
 
 -- the whole result of `open` for a plan's text
 pub record OpenPost (text : List ℕ) (r : Opened) : Type 0 where

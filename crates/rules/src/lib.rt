@@ -206,7 +206,8 @@ pub struct Train {
 
 // The board's whole state: the gates of the plan by number, and the booking of each; the live authorities and the
 // trains on the board, by ascending number. blocks is a set of gates; last is the last number allotted; day and time
-// are the stamp of the last accepted call.
+// are the stamp of the last accepted call. exclusive_held and twa_held are the portions that LPAs and TOAs in force
+// and TWAs in force have in their limits, needed the gates that an authority in force needs (02, order 8).
 // Kept: gates and bookings are two lists: the plan's gates never change, and the reckoning reads them alone; in one
 // list each clause on gates would be of a list that is mapped.
 #[derive(Clone, Drop)]
@@ -220,6 +221,9 @@ pub struct Register {
     pub blocks: u64,
     pub authorities: ArrayVec<Authority, 32>,
     pub trains: ArrayVec<Train, 32>,
+    pub exclusive_held: u64,
+    pub twa_held: u64,
+    pub needed: u64,
 }
 
 impl Register {
