@@ -1,17 +1,19 @@
 // The answer to each call: accepted, or the lowest refusal whose condition holds.
-#![tactic(auto, using(authorities::proofs::AuthorityLaws::not_found, authorities::proofs::AuthorityLaws::found), unfolding(rules::specs::Board::board_of, rules::specs::Refusals::lowest, rules::specs::Refusals::not_officer, rules::specs::Refusals::occupied, rules::specs::Refusals::occupied_beside, rules::specs::Refusals::overlaps, rules::specs::Refusals::still_needed))]
+#![tactic(auto, using(authorities::proofs::AuthorityLaws::not_found, authorities::proofs::AuthorityLaws::found, crate::proofs::Waiting::held_live, rules::proofs::HeldSets::kept_16), unfolding(rules::specs::Board::board_of, rules::specs::Refusals::lowest, rules::specs::Refusals::not_officer, rules::specs::Refusals::occupied))]
 
 ghost use Rattle.std.specs.Prelude.{◌≡◌, Some};
+ghost use mathlib.Core.List.{Memᴰ};
 ghost use Rattle.rules.specs.Board.{board_of};
 ghost use Rattle.rules.specs.Refusals.{lowest, request_refusals, withdraw_refusals, block_refusals, unblock_refusals};
 ghost use Rattle.rules.specs.Refusals.{grant_refusals, clear_refusals, reoccupy_refusals, hand_over_refusals};
 ghost use Rattle.rules.specs.Refusals.{fulfil_refusals, of_continue, continue_refusals, own};
 ghost use Rattle.rules.specs.Answer.{answer_no};
+ghost use Rattle.rules.specs.Step.{Kept};
 ghost use Rattle.answers.specs.Held.{held_by, not_at_stage};
 
 use crate::agreements::{answer_agree, answer_join};
 use crate::bookings::{answer_book_in, answer_book_out};
-use crate::conditions::{is_full, is_outside_term, is_unprotected};
+use crate::conditions::{is_full, is_outside_term, is_overlapped, is_unprotected};
 use crate::terms::answer_term;
 use authorities::find;
 use gates::can_be_blocked;
@@ -85,19 +87,20 @@ fn answer_block(register: &Register, g: GateNo) -> Result<(), Refusal>
 }
 
 fn answer_unblock(register: &Register, g: GateNo) -> Result<(), Refusal>
+    requires { Kept register.now }
     ensures { answer_no result ≡ lowest (unblock_refusals (board_of register.now) g) }
 {
     if !sets::has(register.blocks, g.0) {
         return Err(Refusal::AlreadySo);
     }
-    let gate = gates::gate_at(&register.gates, g);
-    if authorities::is_still_needed(&register.authorities, gate) {
+    if sets::has(register.needed, g.0) {
         return Err(Refusal::StillNeeded);
     }
     Ok(())
 }
 
 fn answer_grant(register: &Register, s: Seven, n: AuthorityNo, officer: u16) -> Result<(), Refusal>
+    requires { Kept register.now }
     ensures { answer_no result ≡ lowest (grant_refusals (board_of register.now) s n officer) }
 {
     let a = held(register, n, Stage::Pending, officer)?;
@@ -107,7 +110,7 @@ fn answer_grant(register: &Register, s: Seven, n: AuthorityNo, officer: u16) -> 
     if trains::is_any_touching(&register.trains, a.limits) {
         return Err(Refusal::Occupied);
     }
-    if authorities::is_overlapped(&register.authorities, AuthorityNo(0), a) {
+    if is_overlapped(register, AuthorityNo(0), a) {
         return Err(Refusal::Overlap);
     }
     if is_outside_term(s, a) {
@@ -167,9 +170,9 @@ fn answer_fulfil(
     Ok(())
 }
 
-// 6, 7, 11, 12, 13 and 22 of CONTINUE, with the two found.
+// 6, 7, 11, 12, 13 and 22 of CONTINUE, with the two found, of which y is asked to be live.
 // Kept: a function of its own. With the two searches in it the check stops at its limit of case splits.
-#[tactic(auto, using(authorities::proofs::Finding::refusals), unfolding(rules::specs::Board::board_of, rules::specs::Refusals::occupied_beside, rules::specs::Refusals::overlaps))]
+#[tactic(auto, using(authorities::proofs::Finding::refusals), unfolding(rules::specs::Board::board_of, rules::specs::Refusals::occupied_beside))]
 fn decide_continue(
     register: &Register,
     s: Seven,
@@ -179,6 +182,8 @@ fn decide_continue(
     officer_old: u16,
     officer_new: u16,
 ) -> Result<(), Refusal>
+    requires kept { Kept register.now }
+    requires live { Memᴰ y register.now.authorities.items }
     ensures { answer_no result
         ≡ lowest (of_continue (board_of register.now) s old x y officer_old officer_new) }
 {
@@ -194,7 +199,7 @@ fn decide_continue(
     if trains::is_any_in_the_way(&register.trains, old, y) {
         return Err(Refusal::Occupied);
     }
-    if authorities::is_overlapped(&register.authorities, old, y) {
+    if is_overlapped(register, old, y) {
         return Err(Refusal::Overlap);
     }
     if is_outside_term(s, y) {
@@ -211,6 +216,7 @@ fn answer_continue(
     officer_old: u16,
     officer_new: u16,
 ) -> Result<(), Refusal>
+    requires { Kept register.now }
     ensures { answer_no result
         ≡ lowest (continue_refusals (board_of register.now) s old new officer_old officer_new) }
 {
@@ -222,6 +228,7 @@ fn answer_continue(
 // The lowest of the call's own refusals, from 5 on, whose condition holds, or none. `s` has the call's stamp.
 #[tactic(auto, unfolding(rules::specs::Refusals::own))]
 pub fn answer_of(register: &Register, s: Seven, c: Call) -> Result<(), Refusal>
+    requires { Kept register.now }
     ensures { answer_no result ≡ lowest (own (board_of register.now) s (Some c)) }
 {
     match c {

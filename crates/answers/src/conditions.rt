@@ -1,9 +1,11 @@
 // The conditions for refusal that are more than one search: full, unprotected, and those on terms (02, order 1).
-ghost use Rattle.std.specs.Prelude.{◌≡◌};
-ghost use Rattle.rules.specs.Board.{board_of};
-ghost use Rattle.rules.specs.Refusals.{full, unprotected, too_soon, outside_term};
+ghost use Rattle.std.specs.Prelude.{◌≡◌, false};
+ghost use mathlib.Core.List.{Memᴰ};
+ghost use Rattle.rules.specs.Board.{board_of, is_in_force};
+ghost use Rattle.rules.specs.Refusals.{full, unprotected, overlaps, too_soon, outside_term};
+ghost use Rattle.rules.specs.Step.{Kept};
 
-use rules::{Authority, Kind, Register, Seven};
+use rules::{Authority, AuthorityNo, Kind, Register, Seven};
 use stamps::minute_of;
 
 // 9: 32 held, or 9999 allotted.
@@ -20,6 +22,17 @@ pub fn is_unprotected(register: &Register, a: Authority) -> bool
     ensures { result ≡ unprotected (board_of register.now) a }
 {
     !sets::subset(gates::needed(&register.gates, a.limits), register.blocks)
+}
+
+// 13, decided from the sets: another in force shares a portion with a, which is live and pending; old isn't counted.
+#[tactic(auto, using(rules::proofs::HeldSets::kept_13))]
+pub fn is_overlapped(register: &Register, old: AuthorityNo, a: Authority) -> bool
+    requires kept { Kept register.now }
+    requires live { Memᴰ a register.now.authorities.items }
+    requires pending { is_in_force a ≡ false }
+    ensures { result ≡ overlaps (board_of register.now) old a }
+{
+    authorities::is_overlapped(register, old, a)
 }
 
 // 21: the start is before the call or less than 10,080 minutes after it.

@@ -1,2 +1,3 @@
--- The definitions that the contract of the search for the authority in force cites, beside those of rules.
-pub mod Authorities
+-- The definitions that the contracts of this crate cite beside those of rules.
+pub mod Sorts
+pub mod Stored

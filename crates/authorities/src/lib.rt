@@ -1,13 +1,38 @@
-// The live authorities that a register holds, by ascending number, which is the order of their requests: searches.
+// The live authorities that a register holds, by ascending number, which is the order of their requests: searches, and
+// what the sets of held portions and needed gates say of them (02, order 8).
 #![tactic(auto)]
 
 ghost use Rattle.std.specs.Prelude.{◌≡◌, find};
-ghost use Rattle.lists.specs.Search.{any};
-ghost use Rattle.rules.specs.Board.{is_authority};
-ghost use Rattle.rules.specs.Refusals.{clashes, in_force_needs};
-ghost use Rattle.authorities.specs.Authorities.{FindsInForce};
+ghost use Rattle.lists.specs.Search.{first};
+ghost use Rattle.rules.specs.Board.{is_authority, no_authority};
+ghost use Rattle.rules.specs.Stored.{holds_as};
+ghost use Rattle.authorities.specs.Sorts.{kind_test};
 
-use rules::{Authority, AuthorityNo, Gate, Kind};
+mod holding;
+mod overlap;
+mod stored;
+
+pub use holding::{holder, is_held};
+pub use overlap::is_overlapped;
+use rules::{Authority, AuthorityNo, Kind};
+pub use stored::{StoredSets, gather};
+
+// The two sorts of authority, whose portions are held apart: LPAs and TOAs, which are exclusive, and TWAs.
+#[derive(Clone, Copy, Debug, PartialEq, Eq)]
+pub enum Sort {
+    Exclusive,
+    Twa,
+}
+
+// The kind is one of the sort.
+fn is_of(kind: Kind, sort: Sort) -> bool
+    ensures { result ≡ kind_test sort kind }
+{
+    match sort {
+        Sort::Exclusive => kind != Kind::Twa,
+        Sort::Twa => kind == Kind::Twa,
+    }
+}
 
 // The authority with that number.
 pub fn find(authorities: &[Authority], n: AuthorityNo) -> Option<Authority>
@@ -16,47 +41,18 @@ pub fn find(authorities: &[Authority], n: AuthorityNo) -> Option<Authority>
     authorities.iter().copied().find(|a| a.number == n)
 }
 
-// The authority in force of a kind that passes the test, whose limits hold the portion: E, where LPA and TOA pass, and
-// W, where TWA alone does.
-pub fn in_force_at<F: Fn(Kind) -> bool>(
-    authorities: &[Authority],
-    p: u16,
-    is_kind: F,
-) -> Option<Authority>
-    requires { F.IsAlwaysCallable is_kind }
-    ensures { FindsInForce (F.post is_kind) p authorities.now result }
+// The limits of the authority with that number; none where it isn't live.
+pub fn limits_of(authorities: &[Authority], n: AuthorityNo) -> u64
+    ensures { result ≡ (first (is_authority n) no_authority authorities.now).limits }
 {
-    authorities.iter().copied().find(|a| {
-        a.in_force && is_kind(a.kind) && sets::has(a.limits, p)
-    })
+    find(authorities, n).unwrap_or_default().limits
 }
 
-// Refusal 13 for a: another in force shares a portion, old not counted.
-pub fn is_overlapped(authorities: &[Authority], old: AuthorityNo, a: Authority) -> bool
-    ensures { result ≡ any (clashes old a) authorities.now }
+// The authority in force of the sort whose limits hold the portion.
+fn in_force_at(authorities: &[Authority], p: u16, sort: Sort) -> Option<Authority>
+    ensures { result ≡ find (holds_as (kind_test sort) p) authorities.now }
 {
-    authorities.iter().any(|x| is_clashing(old, a, *x))
-}
-
-// Refusal 16 for the gate: an authority in force needs it.
-#[tactic(auto, unfolding(rules::specs::Refusals::in_force_needs))]
-pub fn is_still_needed(authorities: &[Authority], gate: Gate) -> bool
-    ensures { result ≡ any (in_force_needs gate) authorities.now }
-{
-    authorities
-        .iter()
-        .any(|a| a.in_force && gates::is_needed(a.limits, gate))
-}
-
-// x is in force, another than a and old, and shares a portion with a, and a rests on no agreement of x's officer:
-// it is no TWA that has agreed the TOA x, and no TOA that has joined the TWA x.
-#[tactic(auto, unfolding(rules::specs::Refusals::clashes, rules::specs::Refusals::rests_on))]
-fn is_clashing(old: AuthorityNo, a: Authority, x: Authority) -> bool
-    ensures { result ≡ clashes old a x }
-{
-    x.in_force
-        && x.number != a.number
-        && x.number != old
-        && sets::overlap(a.limits, x.limits)
-        && !(matches!(a.kind, Kind::Twa | Kind::Toa) && x.number == a.agreed)
+    authorities.iter().copied().find(|a| a.in_force
+        && sets::has(a.limits, p)
+        && is_of(a.kind, sort))
 }

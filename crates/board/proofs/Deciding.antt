@@ -20,19 +20,25 @@ use Rattle.rules.specs.declared.AuthorityNo.{AuthorityNo}
 use Rattle.rules.specs.declared.Call.TheVariants.{Request, Withdraw, Agree, Block, Unblock, Grant, Clear, Reoccupy}
 use Rattle.rules.specs.declared.Call.TheVariants.{HandOver, Fulfil, Continue, Move, Passed, Term, Join, BookOut, BookIn}
 use Rattle.rules.specs.declared.Register.{Register}
-use Rattle.rules.specs.Board.{Board, board_of, with_stamp}
+use Rattle.rules.specs.Board.{Board, board_of, authority, with_stamp}
 use Rattle.rules.specs.declared.kind.Kind.{Kind}
 use Rattle.rules.specs.Call.{Entry, kind_of, calls, no_entry, entry_of, is_call, in_ranges, named, decoded}
 use Rattle.rules.specs.Refusals.{◌when◌, lowest, early, own, conditions, answer}
 use Rattle.rules.specs.Effects.{booked_out, booked_in, effect}
 use Rattle.rules.specs.Answer.{refusal_no, answer_no, number_no, is_numbered}
 use Rattle.rules.specs.Step.{Kept, Bounds, Once, Starts, after, allotted}
-use Rattle.rules.proofs.Accepted.{Ranges, in_ranges_lem}
+use Rattle.rules.specs.Stored.{Stored, SortsApart, changes_sets}
+use Rattle.rules.proofs.Accepted.{Ranges, in_ranges_lem, Accepted, accepted as allowed}
 use Rattle.rules.proofs.Answers.{refused_same, refused_none}
 use Rattle.rules.proofs.Once.{once_after}
 use Rattle.rules.proofs.Safety.{gates_stay}
+use Rattle.rules.proofs.SetsStay.{sets_stay, sets_stamped, granted_beside, fulfilled_beside, continued_beside}
+use Rattle.rules.proofs.SortsKept.{sorts_after}
 use Rattle.rules.proofs.Terms.{starts_after}
-use Rattle.board.specs.Taking.{with_room, Allowed, TakePost}
+use Rattle.authorities.specs.declared.stored.StoredSets.{StoredSets}
+use Rattle.authorities.specs.Stored.{sets_of}
+use Rattle.authorities.proofs.Gathered.{gathered}
+use Rattle.board.specs.Taking.{with_room, Allowed, TakePost, stored_in, named_limits, sets_left, CarriedOut}
 
 -- ---- what the decoded call says of the answer
 
@@ -164,6 +170,9 @@ stamped day time r = record {
   blocks = r.blocks;
   authorities = r.authorities;
   trains = r.trains;
+  exclusive_held = r.exclusive_held;
+  twa_held = r.twa_held;
+  needed = r.needed;
 }
 
 -- no call changes the portions, or how many bookings there are
@@ -199,15 +208,80 @@ bounds_stay r out c day time k e o = record {
   running = o.running;
 }
 
+-- the three sets that it leaves are those that the live authorities give
+abbrev three : ℕ → ℕ → ℕ → StoredSets
+three x w n = record { exclusive_held = x; twa_held = w; needed = n }
+
+same_sets : {x x' w w' n n' : ℕ} → x ≡ x' → w ≡ w' → n ≡ n' → three x w n ≡ three x' w' n'
+same_sets e f g = rw (e, f, g) refl
+
+sets_given : (r : Register) → Stored r → stored_in r ≡ sets_of (board_of r)
+unfolding sets_of
+sets_given r k = same_sets k.exclusive_held k.twa_held k.needed
+
+given_stored : (r : Register) (day time : ℕ) → stored_in r ≡ sets_of (board_of r) → Stored (stamped day time r)
+unfolding sets_of board_of
+given_stored r day time e =
+    let same = sets_stamped (board_of r) day time in
+    record {
+      exclusive_held = ap (λ (t : StoredSets). t.exclusive_held) e ∙ sym same.0;
+      twa_held = ap (λ (t : StoredSets). t.twa_held) e ∙ sym same.1;
+      needed = ap (λ (t : StoredSets). t.needed) e ∙ sym same.2;
+    }
+
+module _ (r : Register) (s : Seven) (k : Kept r) where
+  abbrev before : Board
+  before = board_of r
+
+  abbrev left : Call → Board
+  left c = effect before (Some c)
+
+  -- of a call that changes none they are those held before it
+  held_on : {c : Call} → Accepted before s (Some c) → changes_sets c ≡ false → stored_in r ≡ sets_of (left c)
+  unfolding sets_of
+  held_on {c} a q =
+      let stay = sets_stay before s c k.once a q in
+      sets_given r k.stored ∙ same_sets (sym stay.0) (sym stay.1) (sym stay.2)
+
+  -- of any other they are made anew
+  sets_carried : (c : Call) → Accepted before s (Some c)
+      → sets_left (left c) (stored_in r) (named_limits before c) ≡ sets_of (left c)
+  unfolding effect
+  sets_carried (Request kind low high officer) a = held_on a refl
+  sets_carried (Withdraw n officer) a = held_on a refl
+  sets_carried (Agree toa twa officer) a = held_on a refl
+  sets_carried (Block g) a = held_on a refl
+  sets_carried (Unblock g) a = held_on a refl
+  sets_carried (Grant n officer) a =
+      gathered r k (Grant n officer) (authority before n).limits 0
+      (λ g x y. granted_beside before k.once g n officer x)
+  sets_carried (Clear n officer) a = held_on a refl
+  sets_carried (Reoccupy n officer) a = held_on a refl
+  sets_carried (HandOver n out into) a = held_on a refl
+  sets_carried (Fulfil n officer assurances) a =
+      gathered r k (Fulfil n officer assurances) (authority before n).limits 0
+      (λ g x y. fulfilled_beside before k.once g n officer assurances x)
+  sets_carried (Continue old new officer_old officer_new) a =
+      gathered r k (Continue old new officer_old officer_new) (authority before old).limits
+      (authority before new).limits
+      (λ g x y. continued_beside before k.once g old new officer_old officer_new x y)
+  sets_carried (Move t g n officer) a = held_on a refl
+  sets_carried (Passed t) a = held_on a refl
+  sets_carried (Term n day time minutes) a = held_on a refl
+  sets_carried (Join twa toa officer distance) a = held_on a refl
+  sets_carried (BookOut g paper) a = held_on a refl
+  sets_carried (BookIn g paper certified new) a = held_on a refl
+
 taken_accepted : (r : Register) (s : Seven) (c : Call) (out : Register)
     (given : Result (Option AuthorityNo) Refused.Refusal) → Kept r
-    → named s ≡ Some c → with_room (board_of r) s ≡ 0 → board_of out ≡ effect (board_of r) (Some c)
+    → named s ≡ Some c → with_room (board_of r) s ≡ 0 → CarriedOut r c out
     → answer_no given ≡ 0
     → number_no given ≡ cond (eqb s.call 1) (suc (board_of r).last.0) 0 → is_numbered given ≡ eqb s.call 1
     → TakePost r s (stamped s.day s.time out) given
 unfolding board_of
-taken_accepted r s c out given k is z e accepted number numbered =
+taken_accepted r s c out given k is z (e, sets) accepted number numbered =
     let b : Board = board_of r in
+    let a : Accepted b s (Some c) = subst (Accepted b s) is (allowed b s 55 z) in
     let after_is : with_stamp s.day s.time (board_of out) ≡ after b s 55 =
     accepted_after b s (board_of out) z (e ∙ ap (effect b) (sym is)) in
     record {
@@ -220,6 +294,8 @@ taken_accepted r s c out given k is z e accepted number numbered =
         bounds = bounds_stay r out c s.day s.time k.bounds e (subst Once (sym after_is) (once_after b s 55 k.once));
         once = subst Once (sym after_is) (once_after b s 55 k.once);
         starts = subst Starts (sym after_is) (starts_after b s 55 k.starts);
+        stored = given_stored out s.day s.time (sets ∙ rw e (sets_carried r s k c a));
+        sorts = subst SortsApart (sym after_is) (sorts_after b s 55 k.once k.sorts);
       };
     }
   where
@@ -300,18 +376,18 @@ one_request s e = rw e
 
 pub taken_request : (r : Register) (s : Seven) (kind : Kind) (low high officer : ℕ) (out : Register) → Kept r
     → named s ≡ Some (Request kind low high officer) → with_room (board_of r) s ≡ 0
-    → board_of out ≡ effect (board_of r) (Some (Request kind low high officer))
+    → CarriedOut r (Request kind low high officer) out
     → TakePost r s (stamped s.day s.time out) (Ok (Some out.last))
 unfolding board_of named effect
 taken_request r s kind low high officer out k is z e =
     let one : s.call ≡ 1 = request_one s s.call kind low high officer is in
     taken_accepted r s (Request kind low high officer) out _ k is z e refl
-    (rw (eq-eqb s.call 1 one) (ap (λ (b : Board). b.last.0) e))
+    (rw (eq-eqb s.call 1 one) (ap (λ (b : Board). b.last.0) e.0))
     (sym (eq-eqb s.call 1 one))
 
 pub taken_other : (r : Register) (s : Seven) (c : Call) (out : Register) → Kept r → named s ≡ Some c
     → with_room (board_of r) s ≡ 0
-    → board_of out ≡ effect (board_of r) (Some c)
+    → CarriedOut r c out
     → ((kind : Kind) (low high officer : ℕ) → c ≡ Request kind low high officer → ⊥)
     → TakePost r s (stamped s.day s.time out) (Ok None)
 taken_other r s c out k is z e other =

@@ -4,6 +4,7 @@ ghost use Rattle.rules.specs.Answer.{answer_no, number_no};
 ghost use Rattle.rules.specs.Board.{board_of, opened};
 ghost use Rattle.rules.specs.Journal.{journal_line};
 ghost use Rattle.rules.specs.Step.{Kept, OpenPost, CallPost};
+ghost use Rattle.rules.specs.Stored.{Stored};
 
 use crate::taking::take;
 use arrayvec::ArrayVec;
@@ -13,9 +14,9 @@ use rules::{
     answer_number,
 };
 
-// A freshly opened board: no gate of it is out.
+// A freshly opened board: no gate of it is out, no portion held and no gate needed.
 fn fresh(plan: Plan) -> Register
-    ensures { board_of result ≡ opened plan.portions plan.gates.items }
+    ensures { (board_of result ≡ opened plan.portions plan.gates.items) × Stored result }
 {
     let mut bookings = ArrayVec::from([Booking::default(); 64]);
     bookings.truncate(plan.gates.len());
@@ -29,12 +30,15 @@ fn fresh(plan: Plan) -> Register
         blocks: 0,
         authorities: ArrayVec::new(),
         trains: ArrayVec::new(),
+        exclusive_held: 0,
+        twa_held: 0,
+        needed: 0,
     }
 }
 
 // The board with no portion and no gate.
 fn closed() -> Register
-    ensures { board_of result ≡ opened 0 [] }
+    ensures { (board_of result ≡ opened 0 []) × Stored result }
 {
     fresh(Plan {
         portions: 0,
@@ -87,8 +91,7 @@ fn is_short(line: &[u8]) -> bool
 
 // Takes one call: any seven numbers, any buffer for its line. A buffer under 55 bytes gives 1 and stays as it was.
 // Kept: `requires { Kept register }`, as the architecture has it of each entry: here and in take, calls and sheet. An
-// invariant of Register would be asked of the effects too, which promise theirs for any register, also where the call
-// would be refused.
+// invariant of Register would be asked of it between an effect and the sets that are stored behind it, too.
 pub fn call(mut register: Register, seven: Seven, line: &mut [u8]) -> Called
     requires { Kept register }
     ensures { CallPost register seven line.old result line.new }

@@ -2,14 +2,15 @@
 #![tactic(auto, using(crate::proofs::Changing::amended_by))]
 
 ghost use Rattle.std.specs.Prelude.{◌≡◌, Some, set};
+ghost use Rattle.lists.specs.Distinct.{Distinct};
 ghost use Rattle.rules.specs.declared.Call.TheVariants as Call;
-ghost use Rattle.rules.specs.Board.{board_of, amended, ended};
+ghost use Rattle.rules.specs.Board.{board_of, amended, authority_no, ended};
 ghost use Rattle.rules.specs.Effects.{booked_in, effect, granted, with_agreed, with_officer, with_site, with_term};
 ghost use Rattle.effects.specs.Amending.{AmendedBy};
 ghost use Rattle.effects.specs.Room.{HasPlace};
 
 use arrayvec::ArrayVec;
-use lists::change;
+use lists::change_first;
 use rules::{Authority, AuthorityNo, Booking, GateNo, Kind, PaperNo, Register};
 
 type Authorities = ArrayVec<Authority, 32>;
@@ -41,16 +42,19 @@ pub fn end_authority(authorities: &mut Authorities, n: AuthorityNo)
     authorities.retain(|a| a.number != n);
 }
 
-// Changes the authority with that number by f, in its place; the others stay.
+// Changes the authority with that number by f, in its place; the others stay. No two have the same number, so that it
+// stops there.
 fn amend<F: Fn(Authority) -> Authority>(authorities: &mut Authorities, n: AuthorityNo, f: F)
-    requires { F.IsAlwaysCallable f }
+    requires callable { F.IsAlwaysCallable f }
+    requires distinct { Distinct authority_no authorities.old.items }
     ensures { AmendedBy (F.post f) n authorities.old.items authorities.new.items }
 {
-    change(authorities, |a| a.number == n, f);
+    change_first(authorities, |a| a.number == n, f);
 }
 
 // GRANT, and CONTINUE as new: in force, workers on.
 pub fn put_in_force(authorities: &mut Authorities, n: AuthorityNo)
+    requires { Distinct authority_no authorities.old.items }
     ensures { authorities.new.items ≡ amended n granted authorities.old.items }
 {
     amend(
@@ -66,6 +70,7 @@ pub fn put_in_force(authorities: &mut Authorities, n: AuthorityNo)
 
 // CLEAR and REOCCUPY: the site, workers on or clear.
 pub fn set_site(authorities: &mut Authorities, n: AuthorityNo, on: bool)
+    requires { Distinct authority_no authorities.old.items }
     ensures { authorities.new.items ≡ amended n (with_site on) authorities.old.items }
 {
     amend(
@@ -80,6 +85,7 @@ pub fn set_site(authorities: &mut Authorities, n: AuthorityNo, on: bool)
 
 // HAND OVER: the officer.
 pub fn set_officer(authorities: &mut Authorities, n: AuthorityNo, officer: u16)
+    requires { Distinct authority_no authorities.old.items }
     ensures { authorities.new.items ≡ amended n (with_officer officer) authorities.old.items }
 {
     amend(authorities, n, |a| Authority { officer, ..a });
@@ -87,6 +93,7 @@ pub fn set_officer(authorities: &mut Authorities, n: AuthorityNo, officer: u16)
 
 // AGREE, of the TWA, and JOIN, of the TOA: the authority whose officer agrees.
 pub fn set_agreed(authorities: &mut Authorities, n: AuthorityNo, agreed: AuthorityNo)
+    requires { Distinct authority_no authorities.old.items }
     ensures { authorities.new.items ≡ amended n (with_agreed agreed) authorities.old.items }
 {
     amend(authorities, n, |a| Authority { agreed, ..a });
@@ -94,6 +101,7 @@ pub fn set_agreed(authorities: &mut Authorities, n: AuthorityNo, agreed: Authori
 
 // TERM: the minute in which the term starts, and its length in minutes.
 pub fn set_term(authorities: &mut Authorities, n: AuthorityNo, start: u32, minutes: u16)
+    requires { Distinct authority_no authorities.old.items }
     ensures { authorities.new.items ≡ amended n (with_term start minutes) authorities.old.items }
 {
     amend(

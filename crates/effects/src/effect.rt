@@ -1,8 +1,8 @@
 // What each accepted call does to the register.
 ghost use Rattle.std.specs.Prelude.{◌≡◌, Some};
-ghost use Rattle.lists.specs.Search.{first};
-ghost use Rattle.rules.specs.Board.{board_of, is_authority, no_authority};
+ghost use Rattle.rules.specs.Board.{board_of};
 ghost use Rattle.rules.specs.Effects.{effect};
+ghost use Rattle.rules.specs.Step.{Once};
 ghost use Rattle.effects.specs.Room.{RoomFor};
 
 use crate::changes::{
@@ -10,20 +10,15 @@ use crate::changes::{
     set_site, set_term,
 };
 use crate::running::{continue_with, draw_in, free, go_through};
-use rules::{Authority, AuthorityNo, Booking, Call, PaperNo, Register};
+use authorities::limits_of;
+use rules::{Booking, Call, PaperNo, Register};
 use stamps::minute_of;
 
-// The limits of the authority with that number.
-fn limits_of(authorities: &[Authority], n: AuthorityNo) -> u64
-    ensures { result ≡ (first (is_authority n) no_authority authorities.now).limits }
-{
-    authorities::find(authorities, n).unwrap_or_default().limits
-}
-
 // Does what the accepted call does, but for its stamp.
-#[tactic(auto, unfolding(rules::specs::Board::board_of, rules::specs::Board::authority, rules::specs::Board::train, rules::specs::Effects::effect))]
+#[tactic(auto, using(lists::proofs::Order::ascending_distinct, lists::proofs::Order::ascending_keep), unfolding(rules::specs::Board::board_of, rules::specs::Board::authority, rules::specs::Board::train, rules::specs::Effects::effect))]
 pub fn effect_of(register: &mut Register, c: Call)
-    requires { RoomFor (board_of register.old) c }
+    requires room { RoomFor (board_of register.old) c }
+    requires once { Once (board_of register.old) }
     ensures { board_of register.new ≡ effect (board_of register.old) (Some c) }
 {
     match c {

@@ -1,6 +1,7 @@
 // What FULFIL, CONTINUE, MOVE and PASSED change of trains.
 ghost use Rattle.std.specs.Prelude.{◌≡◌, ◌<◌, true, cond, length, position};
 ghost use Rattle.std.specs.Option.{unwrap_or};
+ghost use Rattle.lists.specs.Distinct.{Distinct};
 ghost use Rattle.lists.specs.Order.{insert_by};
 ghost use Rattle.lists.specs.Search.{first};
 ghost use Rattle.sets.specs.Sets.{has};
@@ -10,7 +11,7 @@ ghost use Rattle.rules.specs.Effects.{continued, entered, freed, with_head, with
 ghost use Rattle.effects.specs.Room.{is_above};
 
 use arrayvec::ArrayVec;
-use lists::change;
+use lists::{change, change_first};
 use rules::{AuthorityNo, Gate, Train, TrainNo};
 
 type Trains = ArrayVec<Train, 32>;
@@ -72,7 +73,8 @@ fn insert_train(trains: &mut Trains, t: Train)
 
 // MOVE through the gate: from outside the train comes to its place on the board, else its head goes on; it is with n.
 pub fn go_through(trains: &mut Trains, gate: Gate, t: TrainNo, n: AuthorityNo)
-    requires { is_outside gate.from ≡ true → length trains.old.items < 32 }
+    requires room { is_outside gate.from ≡ true → length trains.old.items < 32 }
+    requires distinct { Distinct train_no trains.old.items }
     ensures { trains.new.items ≡ cond (is_outside gate.from) (insert_by train_no (entered t gate.to n) trains.old.items)
         (moved t (with_head gate.to n) trains.old.items) }
 {
@@ -87,7 +89,7 @@ pub fn go_through(trains: &mut Trains, gate: Gate, t: TrainNo, n: AuthorityNo)
             },
         );
     } else {
-        change(
+        change_first(
             trains,
             |x| x.number == t,
             |x| Train {
@@ -108,6 +110,7 @@ fn head_of(trains: &[Train], t: TrainNo) -> u16
 
 // PASSED: rear becomes head; a head outside takes the train off.
 pub fn draw_in(trains: &mut Trains, t: TrainNo)
+    requires { Distinct train_no trains.old.items }
     ensures { let ts = trains.old.items in
         trains.new.items
         ≡ cond (is_outside (first (is_train t) no_train ts).head) (gone t ts) (moved t with_rear_in ts) }
@@ -115,6 +118,6 @@ pub fn draw_in(trains: &mut Trains, t: TrainNo)
     if head_of(trains, t) == 99 {
         trains.retain(|x| x.number != t);
     } else {
-        change(trains, |x| x.number == t, |x| Train { rear: x.head, ..x });
+        change_first(trains, |x| x.number == t, |x| Train { rear: x.head, ..x });
     }
 }

@@ -15,15 +15,18 @@ use Rattle.columns.specs.declared.cells.Cell.{Cell}
 use Rattle.columns.specs.declared.cells.Cell.TheVariants.{Empty, Number, Minus}
 use Rattle.columns.specs.Cells.{difference, cell_fits, cell_line, cells_fit}
 use Rattle.columns.proofs.CellsLaws.{number_fits, minus_fits, empty_fits, cell_line-length}
-use Rattle.sets.specs.Sets.{size, is_member, least, greatest}
+use Rattle.sets.specs.Sets.{union, size, is_member, least, greatest}
 use Rattle.sets.proofs.Ends.{least_most, greatest_most}
 use Rattle.rules.specs.declared.kind.Kind.{Kind}
 use Rattle.rules.specs.declared.kind.Kind.TheVariants.{Lpa, Toa, Twa}
 use Rattle.rules.specs.declared.Authority.{Authority}
-use Rattle.rules.specs.Board.{Board, kind_no, is_in_force, has_workers_on, authority_no}
+use Rattle.rules.specs.declared.Register.{Register}
+use Rattle.rules.specs.Board.{board_of, kind_no, is_in_force, has_workers_on, authority_no}
 use Rattle.rules.specs.Call.{minute_of}
 use Rattle.rules.specs.Sheet.{stage_no, site_no, minutes_in_hand, authority_cells, authority_widths, held_portions}
 use Rattle.rules.specs.Sheet.{total_cells, total_widths}
+use Rattle.rules.specs.Step.{Kept}
+use Rattle.rules.proofs.Sheets.{held_by_sort}
 use Rattle.columns.specs.Line.{fit_of}
 
 -- a number of no more digits than columns, and one of fewer behind a minus sign
@@ -116,15 +119,18 @@ size_most : (set : ℕ) → size set ≤ 64
 unfolding size below
 size_most set = length-keep (is_member set) (below 64)
 
--- the counts of its first two cells are those of the definition, and each cell fits
-pub total_line_lem : (b : Board) (held blocked : ℕ) → held ≡ size (held_portions b.authorities)
-    → blocked ≡ size b.blocks
+-- the counts of its first two cells are those of the definition, the portions held counted from the two sets that the
+-- register holds; and each cell fits
+pub total_line_lem : (r : Register) → Kept r → (held blocked : ℕ)
+    → held ≡ size (union r.exclusive_held r.twa_held) → blocked ≡ size r.blocks
     → let cells = Number held ∷ Number blocked ∷ Empty ∷ [] in
-    (cells ≡ total_cells b) × (cells_fit total_widths cells ≡ true)
-unfolding fit_of total_cells
-total_line_lem b held blocked h g = (
-  rw (h, g),
-  and_from _ _ (number_in 9 held (omega arith) (omega (arith, size_most (held_portions b.authorities))))
-      (and_from _ _ (number_in 9 blocked (omega arith) (omega (arith, size_most b.blocks)))
-      (and_from _ _ (empty_fits 54) refl)),
-)
+    (cells ≡ total_cells (board_of r)) × (cells_fit total_widths cells ≡ true)
+unfolding fit_of board_of total_cells
+total_line_lem r k held blocked h g =
+    let all : union r.exclusive_held r.twa_held ≡ held_portions r.authorities.items =
+    rw (k.stored.exclusive_held, k.stored.twa_held) (held_by_sort (board_of r)) in (
+      rw (h, all, g),
+      and_from _ _ (number_in 9 held (omega arith) (omega (arith, size_most (union r.exclusive_held r.twa_held))))
+          (and_from _ _ (number_in 9 blocked (omega arith) (omega (arith, size_most r.blocks)))
+          (and_from _ _ (empty_fits 54) refl)),
+    )

@@ -1,5 +1,4 @@
 -- The laws of the sheet that its proofs stand on, and what one use of `write_sheet` is.
-pub mod Holding
 pub mod Fitting
 pub mod PageLines
 pub mod Pages

@@ -3,7 +3,8 @@ ghost use Rattle.std.specs.Prelude.{◌*◌, ◌^◌, ◌<◌, ◌≡◌, true};
 ghost use Rattle.columns.specs.Cells.{cell_fits, cells_fit};
 ghost use Rattle.rules.specs.Board.{board_of};
 ghost use Rattle.rules.specs.Sheet.{stage_no, site_no, minutes_in_hand, authority_cells, authority_widths};
-ghost use Rattle.rules.specs.Sheet.{held_portions, total_cells, total_widths};
+ghost use Rattle.rules.specs.Sheet.{total_cells, total_widths};
+ghost use Rattle.rules.specs.Step.{Kept};
 
 use columns::{Cell, difference};
 use rules::{Authority, Register};
@@ -51,22 +52,15 @@ pub fn authority_cells(a: Authority, now: u32) -> [Cell; 9]
     ]
 }
 
-// The portions that an authority in force has in its limits.
-fn held_portions(authorities: &[Authority]) -> u64
-    ensures { result ≡ held_portions authorities.now }
-{
-    authorities
-        .iter()
-        .filter(|a| a.in_force)
-        .fold(0, |held, a| sets::union(held, a.limits))
-}
-
-// The last line: the portions held and the gates blocked, and blanks.
+// The last line: the portions held, those of the two sets, and the gates blocked, and blanks.
+// Kept: `Kept`, as board's `call` says.
 pub fn total_cells(register: &Register) -> [Cell; 3]
+    requires { Kept register.now }
     ensures { (result ≡ total_cells (board_of register.now)) × (cells_fit total_widths result ≡ true) }
 {
+    let held = sets::union(register.exclusive_held, register.twa_held);
     [
-        Cell::Number(sets::size(held_portions(&register.authorities))),
+        Cell::Number(sets::size(held)),
         Cell::Number(sets::size(register.blocks)),
         Cell::Empty,
     ]

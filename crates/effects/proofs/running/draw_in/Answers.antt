@@ -2,8 +2,8 @@
 use Rattle.std.proofs.Common.{rules}
 use borrow.Author.Tests.{eq-eqb, ne_eqb}
 use Rattle.arrayvec.proofs.ArrayVecLemmas.{filter-from_retain}
-use Rattle.lists.proofs.Each.{changed-where}
-use Rattle.rules.specs.Board.{is_train, is_not_train}
+use Rattle.lists.proofs.Each.{changed-one}
+use Rattle.rules.specs.Board.{train_no, is_not_train}
 use Rattle.rules.specs.Effects.{with_rear_in}
 use Rattle.effects.proofs.running.draw_in.Goals as goal
 
@@ -15,4 +15,5 @@ returns-then-head_of-eq99 c =
 pub returns-else-head_of-eq99 : goal.returns-else-head_of-eq99
 returns-else-head_of-eq99 c =
     rw (← (rw c.deref.ensures.0 at c.head_of.ensures), ne_eqb _ _ c.if-head_of-eq99.false)
-    (changed-where (is_train c.args.t) with_rear_in c.change.ensures (λ x b k. search rules) (λ x y k. search rules))
+    (changed-one train_no c.args.t.0 with_rear_in c.change_first.ensures c.requires (λ x b k. search rules)
+    (λ x y k. search rules))

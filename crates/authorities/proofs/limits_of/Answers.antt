@@ -1,9 +1,9 @@
--- `effects::effect::limits_of` meets its contract. Assumes nothing.
+-- `authorities::limits_of` meets its contract. Assumes nothing.
 use Rattle.std.proofs.Common.{◌≡◌, refl, rules}
 use Rattle.std.specs.Option.{unwrap_or}
 use Rattle.lists.proofs.Finds.{first-find}
 use Rattle.rules.specs.Board.{is_authority, no_authority}
-use Rattle.effects.proofs.effect.limits_of.Goals as goal
+use Rattle.authorities.proofs.limits_of.Goals as goal
 
 pub returns : goal.returns
 returns c =

@@ -1,2 +1,0 @@
--- The laws of MOVE's flags that its answer cites.
-mod Flags
