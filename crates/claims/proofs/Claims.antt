@@ -18,6 +18,7 @@ use Rattle.sets.specs.Sets.{has, least, greatest}
 use Rattle.columns.specs.declared.cells.Cell.TheVariants.{Empty, Number}
 use Rattle.rules.specs.declared.Authority.{Authority}
 use Rattle.rules.specs.declared.AuthorityNo.{AuthorityNo}
+use Rattle.rules.specs.declared.Call.{Call}
 use Rattle.rules.specs.declared.Call.TheVariants.{BookIn}
 use Rattle.rules.specs.declared.Called.{Called}
 use Rattle.rules.specs.declared.GateNo.{GateNo}
@@ -32,18 +33,22 @@ use Rattle.rules.specs.Call.{named}
 use Rattle.rules.specs.Claim.{Safe}
 use Rattle.rules.specs.Journal.{journal_line}
 use Rattle.rules.specs.Plan.{is_plan, open_board}
-use Rattle.rules.specs.Reckoning.{Reckoning, at_start, agreement, reckoned}
+use Rattle.rules.specs.Reckoning.{Reckoning, Reckoned, at_start, agreement, reckoned}
 use Rattle.rules.specs.Refusals.{conditions, answer}
 use Rattle.rules.specs.Sheet.{now_of, authority_cells, sheet_lines, sheet}
 use Rattle.rules.specs.Step.{Made, Answered, Once, Kept, after, trace, final}
+use Rattle.rules.specs.Stored.{exclusive_portions, twa_portions, needed_gates, Stored, SortsApart, changes_sets}
 use Rattle.rules.proofs.Agreements.{Recorded, list_agreements, list_lpas}
 use Rattle.rules.proofs.Answers.{NoneHolds, Refused, accepted_none, none_accepted, refused_lowest, lowest_refused}
 use Rattle.rules.proofs.Answers.{refused_none, short_line, long_line}
 use Rattle.rules.proofs.Bookings.{Booked, NeededBy, list_booked, limits_protected, needed_not_restored}
 use Rattle.rules.proofs.Equality.{equal_same, NoneOfLpas, same_equal}
+use Rattle.rules.proofs.HeldSets.{same_board_sets, sets_opened}
 use Rattle.rules.proofs.Once.{held_once}
-use Rattle.rules.proofs.Opening.{refused_plan}
+use Rattle.rules.proofs.Opening.{fresh, refused_plan}
 use Rattle.rules.proofs.Safety.{demand_3}
+use Rattle.rules.proofs.SetsShown.{Shown, list_shown}
+use Rattle.rules.proofs.SetsStay.{sets_after}
 use Rattle.rules.proofs.Sheets.{first-last, Ascend, lines_ascend}
 use Rattle.rules.proofs.Stays.{ended_by, agreed_by, StaysIn, authority_stays}
 use Rattle.board.proofs.BoardUses.{Opening, Calling, CallAsks, opening_post, calling_post, call_asks}
@@ -136,6 +141,19 @@ plan_refused {text} o refused =
     let p = opening_post o in
     let e = refused_plan text refused in
     (p.answered ∙ e.0, p.board ∙ e.1)
+
+-- and a freshly opened board, the closed one too, holds nothing and needs no gate (order 8)
+pub opened_empty : {text : List ℕ} {opened : Opened} → Opening text opened
+    → (opened.register.exclusive_held ≡ 0) × (opened.register.twa_held ≡ 0) × (opened.register.needed ≡ 0)
+opened_empty {text} o =
+    let p = opening_post o in
+    let f = fresh text in
+    let stands = p.board ∙ f.is_opened in
+    let none = sets_opened f.portions f.gates in (
+      p.kept.stored.exclusive_held ∙ ap exclusive_portions stands ∙ sym none.0,
+      p.kept.stored.twa_held ∙ ap twa_portions stands ∙ sym none.1,
+      p.kept.stored.needed ∙ ap needed_gates stands ∙ sym none.2,
+    )
 
 -- a run's register is that of the calls of its text, made one after another with room for their lines, as many at most
 -- as the buffer has room for; their lines are at the front of the buffer, and its later bytes stay
@@ -305,6 +323,57 @@ module _ {plan : List ℕ} {ms : List Made} {ts : List Told} {r : Register} (h :
       (by_rules h (λ b cs. NoneOfLpas b.authorities) (list_lpas plan ms))
       (by_rules k (λ b cs. NoneOfLpas b.authorities) (list_lpas plan' ms'))
 
+  -- ---- order 8
+
+  -- "Every call keeps each equal to what the live authorities give, refused calls included": the three sets are those
+  -- of the live authorities that the register holds, and a refused call returns the very sets that it was handed
+  -- (`refused_keeps`)
+  pub ran_stored : Stored r
+  ran_stored = (ran_kept h).stored
+
+  -- read off the calls and the answers alone: a portion is in the first set exactly where an LPA or a TOA in force has
+  -- it in its limits, in the second where a TWA has, and a gate in the third exactly where an authority in force needs
+  -- it; and each gate of the third is blocked
+  pub ran_shown : Shown (open_board plan).gates (reckoned_from plan (answers_of ts)).authority r.exclusive_held
+      r.twa_held r.needed r.blocks
+  unfolding board_of
+  ran_shown =
+      let k = ran_stored in
+      of_these k.exclusive_held k.twa_held k.needed
+      (by_rules h
+      (λ b cs. Shown (open_board plan).gates (reckoned_from plan cs).authority (exclusive_portions b) (twa_portions b)
+      (needed_gates b) b.blocks)
+      (list_shown plan ms))
+    where
+      of_these : {A : ℕ → Reckoned} {x x' w w' n n' blocks : ℕ} → x ≡ x' → w ≡ w' → n ≡ n'
+          → Shown (open_board plan).gates A x' w' n' blocks → Shown (open_board plan).gates A x w n blocks
+      of_these e f g k = rw (e, f, g) k
+
+  -- two in force of one sort, both exclusive or both TWAs, share no portion, so that limits can be taken out of a set
+  pub ran_sorts : SortsApart (board_of r)
+  ran_sorts = (ran_kept h).sorts
+
+  -- a call that is none of GRANT, FULFIL and CONTINUE leaves the sets as they were, accepted or refused
+  pub sets_handed_on : {s : Seven} {buffer : List ℕ} {called : Called} {buffer' : List ℕ}
+      → Calling r s buffer called buffer' → (c : Call) → named s ≡ Some c → changes_sets c ≡ false
+      → (called.register.exclusive_held ≡ r.exclusive_held) × (called.register.twa_held ≡ r.twa_held)
+      × (called.register.needed ≡ r.needed)
+  sets_handed_on {s} {buffer} k c is other =
+      let p = calling_post k in
+      let now = p.kept.stored in
+      let then = ran_stored in
+      let same = sets_after (board_of r) s (length buffer) c (ran_kept h).once is other in (
+        now.exclusive_held ∙ ap exclusive_portions p.board ∙ same.0 ∙ sym then.exclusive_held,
+        now.twa_held ∙ ap twa_portions p.board ∙ same.1 ∙ sym then.twa_held,
+        now.needed ∙ ap needed_gates p.board ∙ same.2 ∙ sym then.needed,
+      )
+
+  -- and nothing of them is left free: registers that are equal by 01 and 02 hold the same sets
+  pub ran_same_sets : {plan' : List ℕ} {ms' : List Made} {ts' : List Told} {r' : Register} → Ran plan' ms' ts' r'
+      → Same (board_of r) (board_of r')
+      → (r.exclusive_held ≡ r'.exclusive_held) × (r.twa_held ≡ r'.twa_held) × (r.needed ≡ r'.needed)
+  ran_same_sets {r' = r'} k same = same_board_sets r r' ran_stored (ran_kept k).stored (ran_equal k same)
+
 -- ---- order 2: the sheet
 
 module _ {r : Register} {page : List ℕ} {out : Result ℕ Refusal} {page' : List ℕ}
@@ -333,10 +402,10 @@ module _ {plan : List ℕ} {ms : List Made} {ts : List Told} {r : Register} (h :
   -- whatever the call, the text or the page, each function can return what its contract says
   pub can_call : (s : Seven) (buffer : List ℕ)
       → (called : Called) × (buffer' : List ℕ) × Calling r s buffer called buffer'
-  can_call = call_possible plan ms r (ran_board h)
+  can_call = call_possible plan ms r (ran_board h, ran_stored h)
 
   pub can_run : (text buffer : List ℕ) → (ran : AfterRun) × (buffer' : List ℕ) × Running r text buffer ran buffer'
-  can_run = run_possible plan ms r (ran_board h)
+  can_run = run_possible plan ms r (ran_board h, ran_stored h)
 
   pub can_write_sheet : (page : List ℕ) → (out : Result ℕ Refusal) × (page' : List ℕ) × WritingSheet r page out page'
   can_write_sheet = sheet_possible r

@@ -28,12 +28,14 @@ use Rattle.rules.specs.Board.{Board, board_of}
 use Rattle.rules.specs.Journal.{line_after}
 use Rattle.rules.specs.Plan.{is_plan, open_board, open_answer}
 use Rattle.rules.specs.Refusals.{answer}
+use Rattle.rules.specs.Stored.{exclusive_portions, twa_portions, needed_gates, Stored, SortsApart}
 use Rattle.rules.specs.Step.{Made, Once, Starts, Kept, after, allotted, final}
 use Rattle.rules.proofs.Answers.{answer_most, refused_same}
 use Rattle.rules.proofs.Bookings.{list_booked}
 use Rattle.rules.proofs.Once.{once_open, once_final}
 use Rattle.rules.proofs.Opening.{fresh}
 use Rattle.rules.proofs.Safety.{list_follows}
+use Rattle.rules.proofs.SortsKept.{sorts_list}
 use Rattle.rules.proofs.Terms.{starts_after, starts_opened}
 use Rattle.rules.specs.Sheet.{sheet_lines, sheet, is_short}
 use Rattle.board.proofs.BoardUses.{Opening, Calling, post_opening, post_calling}
@@ -57,11 +59,18 @@ register_of b = record {
   blocks = b.blocks;
   authorities = record { items = b.authorities };
   trains = record { items = b.trains };
+  exclusive_held = exclusive_portions b;
+  twa_held = twa_portions b;
+  needed = needed_gates b;
 }
 
-stands : (b : Board) → board_of (register_of b) ≡ b
+-- the register stands for the board, with the sets that the board gives (02, order 8)
+abbrev Standing : Register → Board → Type 0
+Standing r b = (board_of r ≡ b) × Stored r
+
+stands : (b : Board) → Standing (register_of b) b
 unfolding board_of register_of
-stands b = refl
+stands b = (refl, record { exclusive_held = refl; twa_held = refl; needed = refl })
 
 -- the board after a list of calls
 
@@ -76,11 +85,11 @@ starts_list plan ms =
     let o = fresh plan in
     starts_final (open_board plan) ms (subst Starts (sym o.is_opened) (starts_opened o.portions o.gates))
 
--- THEOREM: a register that stands for the board after a list of calls, on a board opened from any plan text, is one
--- that each function may be handed
-pub stands_kept : (plan : List ℕ) (ms : List Made) (r : Register) → board_of r ≡ final (open_board plan) ms → Kept r
+-- THEOREM: a register that stands for the board after a list of calls, on a board opened from any plan text, with the
+-- sets that this board gives, is one that each function may be handed
+pub stands_kept : (plan : List ℕ) (ms : List Made) (r : Register) → Standing r (final (open_board plan) ms) → Kept r
 unfolding board_of
-stands_kept plan ms r e =
+stands_kept plan ms r (e, stored) =
     let follows = list_follows plan ms in
     let once : Once (board_of r) = subst Once (sym e) (once_final (open_board plan) ms (once_open plan)) in
     record {
@@ -95,6 +104,8 @@ stands_kept plan ms r e =
       };
       once = once;
       starts = subst Starts (sym e) (starts_list plan ms);
+      stored = stored;
+      sorts = subst SortsApart (sym e) (sorts_list plan ms);
     }
 
 -- ---- a refusal of each number
@@ -162,17 +173,17 @@ pub open_possible : (plan : List ℕ) → (opened : Opened) × Opening plan open
 unfolding open_answer
 open_possible plan =
     let r : Register = register_of (open_board plan) in
-    let e : board_of r ≡ open_board plan = stands (open_board plan) in
+    let (e, stored) = stands (open_board plan) in
     let opened : Opened = record { register = r; answer = cond (is_plan plan) (Ok tt) (Err Plan) } in (
       opened,
       post_opening (record {
         board = e;
         answered = open_answered (is_plan plan);
-        kept = stands_kept plan [] r (e ∙ sym (no_call (open_board plan)));
+        kept = stands_kept plan [] r (e ∙ sym (no_call (open_board plan)), stored);
       }),
     )
 
-module _ (plan : List ℕ) (ms : List Made) (r : Register) (e : board_of r ≡ final (open_board plan) ms) where
+module _ (plan : List ℕ) (ms : List Made) (r : Register) (stands_for : Standing r (final (open_board plan) ms)) where
   pub call_possible : (s : Seven) (buffer : List ℕ)
       → (called : Called) × (buffer' : List ℕ) × Calling r s buffer called buffer'
   unfolding allotted
@@ -185,12 +196,15 @@ module _ (plan : List ℕ) (ms : List Made) (r : Register) (e : board_of r ≡ f
       let g : Gives a request (suc b.last.0) given = gives a request (suc b.last.0) (answer_most b s room) in
       let call : List Made = record { seven = s; room = room } ∷ [] in
       let n : Register = cond (eqb a 0) (register_of (after b s room)) r in
-      let en : board_of n ≡ after b s room =
-      cond_both (eqb a 0) (register_of (after b s room)) r (λ x. board_of x ≡ after b s room)
+      let (en, stored) =
+      cond_both (eqb a 0) (register_of (after b s room)) r (λ x. Standing x (after b s room))
       (λ accepted. stands (after b s room))
-      (λ refused. sym (refused_same b s room (λ z. true≢false (sym (eq-eqb a 0 z) ∙ refused)))) in
+      (λ refused. (
+        sym (refused_same b s room (λ z. true≢false (sym (eq-eqb a 0 z) ∙ refused))),
+        stands_for.1,
+      )) in
       let is_next : board_of n ≡ final (open_board plan) (ms ++ call) =
-      en ∙ ap (λ (c : Board). after c s room) e ∙ sym (one_call (final (open_board plan) ms) s room)
+      en ∙ ap (λ (c : Board). after c s room) stands_for.0 ∙ sym (one_call (final (open_board plan) ms) s room)
       ∙ sym (final_append (open_board plan) ms call) in
       let called : Called = record { register = n; answer = given } in (
         called,
@@ -202,7 +216,7 @@ module _ (plan : List ℕ) (ms : List Made) (r : Register) (e : board_of r ≡ f
           numbered = g.numbered;
           line = refl;
           unchanged = λ e. rw (g.refused e);
-          kept = stands_kept plan (ms ++ call) n is_next;
+          kept = stands_kept plan (ms ++ call) n (is_next, stored);
         }),
       )
 
@@ -212,9 +226,10 @@ module _ (plan : List ℕ) (ms : List Made) (r : Register) (e : board_of r ≡ f
       let b : Board = board_of r in
       let calls : List Seven = calls_in (length buffer / 55) text in
       let end : Board = final b (map made calls) in
-      let en : board_of (register_of end) ≡ end = stands end in
+      let (en, stored) = stands end in
       let is_next : board_of (register_of end) ≡ final (open_board plan) (ms ++ map made calls) =
-      en ∙ ap (λ (c : Board). final c (map made calls)) e ∙ sym (final_append (open_board plan) ms (map made calls)) in
+      en ∙ ap (λ (c : Board). final c (map made calls)) stands_for.0
+      ∙ sym (final_append (open_board plan) ms (map made calls)) in
       let ran : AfterRun = record { register = register_of end; lines = length calls } in (
         ran,
         journal b calls ++ drop (55 * length calls) buffer,
@@ -222,7 +237,7 @@ module _ (plan : List ℕ) (ms : List Made) (r : Register) (e : board_of r ≡ f
           board = en;
           lines = refl;
           bytes = refl;
-          kept = stands_kept plan (ms ++ map made calls) (register_of end) is_next;
+          kept = stands_kept plan (ms ++ map made calls) (register_of end) (is_next, stored);
         }),
       )
 
