@@ -4,7 +4,7 @@
 //!   generate SEED busy N OUTDIR    the same, N calls on a busy board
 //!
 //! Kinds: steered, numbers, damaged, short, wild, shift, limits, trains, bookings,
-//! agreements, busy N. The generator looks at the reference's board, which it uses
+//! agreements, sets, busy N. The generator looks at the reference's board, which it uses
 //! as a module, to steer towards calls that are accepted or refused for a wanted
 //! reason. The clock goes on by a few minutes a call, and sometimes by about a week to the term
 //! of an LPA; now and then some TOAs and TWAs join and agree over the same few
@@ -1588,7 +1588,10 @@ impl Driver {
     /// list does.
     fn journey(&mut self, mood: &Mood, end: usize, list: &mut Vec<[u16; 7]>) {
         let (first, last) = self.free_limits();
-        let last = last.min(first + 3);
+        self.journey_over(first, last.min(first + 3), mood, end, list);
+    }
+
+    fn journey_over(&mut self, first: u16, last: u16, mood: &Mood, end: usize, list: &mut Vec<[u16; 7]>) {
         let here = Portions::first_to_last(first, last);
         let ours = |one: &Authority| one.kind != Kind::Lpa && one.limits.share(here);
         for _ in 0..20 + self.rng.below(40) {
@@ -2572,6 +2575,55 @@ impl Driver {
     }
 }
 
+/// Few calls, among them many that matter to the portions held and the gates
+/// needed: TOAs and TWAs over the same few portions, mostly at one end of the
+/// board, that join, agree, come into force, continue, there and elsewhere, and
+/// end, and between them calls of every sort.
+fn sets(mut rng: Rng) -> (Vec<u8>, Vec<u8>) {
+    let plan = if rng.chance(70) {
+        Plan { portions: 64, gates: (0..64).map(|to| [OUTSIDE, to, rng.between(1, 4)]).collect() }
+    } else {
+        Plan::plain_line(&mut rng)
+    };
+    let mut driver = Driver::new(rng, &plan);
+    let mut list = Vec::new();
+    while list.len() < FEW {
+        let (some, last) = (driver.rng.between(0, 1), plan.portions - 1);
+        let (first, last) = driver.rng.pick(&[(0, some), (last - some, last), (last / 2, last / 2 + some)]);
+        driver.journey_over(first, last, &AMONG_OURS, usize::MAX, &mut list);
+        driver.part(&mut list);
+        driver.mood = EVEN;
+        for _ in 0..driver.rng.below(30) {
+            let numbers = driver.next_call();
+            driver.apply(&numbers);
+            list.push(numbers);
+        }
+    }
+    list.truncate(FEW);
+    (plan.text(), text_of(&list))
+}
+
+impl Driver {
+    /// Of two in force over one portion, if there are such, one ends or goes on
+    /// as another elsewhere.
+    fn part(&mut self, list: &mut Vec<[u16; 7]>) {
+        let standing: Vec<Authority> = self.board.live.iter().filter(|one| one.is_in_force()).copied().collect();
+        let shares = |one: &Authority| standing.iter().any(|that| that.number != one.number && that.limits.share(one.limits));
+        let Some(old) = self.pick_live(|one| one.is_in_force() && shares(one)) else {
+            return;
+        };
+        if self.rng.chance(40) {
+            self.end(&old, list);
+            return;
+        }
+        let (first, last) = self.free_limits();
+        let (kind, officer) = (self.rng.pick(&[2, 3]), self.any_officer());
+        if let Some(new) = self.ask([kind, first, last.min(first + 1), officer], list) {
+            self.add(11, [old.number.0, new, old.officer, officer], list);
+        }
+    }
+}
+
 /// Random numbers, mostly small.
 fn wild(mut rng: Rng) -> (Vec<u8>, Vec<u8>) {
     let plan = Plan::random(&mut rng);
@@ -2875,7 +2927,7 @@ fn seeded(seed: u64, kind: &str) -> Rng {
 }
 
 fn run(arguments: &[String]) -> Result<(), String> {
-    let usage = "usage: generate SEED steered|numbers|damaged|short|wild|shift|limits|trains|bookings|agreements OUTDIR, or generate SEED busy N OUTDIR";
+    let usage = "usage: generate SEED steered|numbers|damaged|short|wild|shift|limits|trains|bookings|agreements|sets OUTDIR, or generate SEED busy N OUTDIR";
     let (seed, kind, folder) = match arguments {
         [seed, kind, .., folder] => (seed, kind.as_str(), Path::new(folder)),
         _ => return Err(usage.to_string()),
@@ -2892,6 +2944,7 @@ fn run(arguments: &[String]) -> Result<(), String> {
         ("trains", 3) => trains(rng),
         ("bookings", 3) => bookings(rng),
         ("agreements", 3) => agreements(rng),
+        ("sets", 3) => sets(rng),
         ("busy", 4) => {
             let count = arguments[2].parse().map_err(|_| usage)?;
             return busy(rng, count, folder).map_err(|error| error.to_string());

@@ -1,11 +1,11 @@
-//! The track authority board, read from document 01 and orders 1 to 7 of
+//! The track authority board, read from document 01 and orders 1 to 8 of
 //! document 02, without a look at the definitions.
 //!
 //! A plain program: it reads the files `plan` and `calls` in the working
 //! folder and prints the journal on standard output; with the argument `sheet`
 //! it prints order 2's shift sheet instead, and with `held` the live
-//! authorities, the trains and the bookings that the register then holds, in its
-//! order.
+//! authorities, the trains, the bookings and order 8's three sets that the
+//! register then holds, in its order.
 //! Quotation marks in the comments hold the papers' own words; what isn't
 //! marked as an order's is 01's. Each call is one function of the board; its
 //! conditions for refusal are tested in ascending order of their numbers,
@@ -187,6 +187,14 @@ impl Portions {
         self.0 & other.0 != 0
     }
 
+    pub fn add_all(&mut self, other: Portions) {
+        self.0 |= other.0;
+    }
+
+    pub fn remove_all(&mut self, other: Portions) {
+        self.0 &= !other.0;
+    }
+
     /// The first and the last portion of limits, which are never empty.
     pub fn first(self) -> u16 {
         self.0.trailing_zeros() as u16
@@ -213,6 +221,10 @@ impl Gates {
 
     pub fn add(&mut self, gate: GateNumber) {
         self.0 |= 1 << gate.0;
+    }
+
+    pub fn add_all(&mut self, other: Gates) {
+        self.0 |= other.0;
     }
 
     pub fn remove(&mut self, gate: GateNumber) {
@@ -471,6 +483,14 @@ pub struct Board {
     /// comes is put in its place, and when one leaves the others keep their
     /// order
     pub trains: Vec<Train>,
+    /// Order 8: "Keep in the register the set of portions held by exclusive
+    /// authorities in force"; "A portion is held if an authority in force has it
+    /// in its limits" (order 2)
+    pub exclusive_held: Portions,
+    /// order 8: "the same for TWAs"
+    pub twa_held: Portions,
+    /// order 8: "the set of gates that an authority in force needs"
+    pub needed: Gates,
 }
 
 impl Board {
@@ -519,6 +539,9 @@ impl Board {
             blocked: Gates(0),
             live: Vec::with_capacity(MOST_LIVE),
             trains: Vec::with_capacity(MOST_TRAINS),
+            exclusive_held: Portions(0),
+            twa_held: Portions(0),
+            needed: Gates(0),
         }
     }
 
@@ -662,9 +685,8 @@ impl Board {
         // 8 "already in that position"
         let number = GateNumber(gate);
         refuse_if(!self.blocked.hold(number), Refusal::AlreadySo)?;
-        // 16 "an authority in force needs the gate"
-        let needed = self.live.iter().any(|one| one.is_in_force() && one.needs.hold(number));
-        refuse_if(needed, Refusal::StillNeeded)?;
+        // 16 "an authority in force needs the gate", by order 8 from the set
+        refuse_if(self.needed.hold(number), Refusal::StillNeeded)?;
 
         self.blocked.remove(number);
         Ok(0)
@@ -689,12 +711,13 @@ impl Board {
         // 12 "a train touches the limits"
         refuse_if(self.is_touched(this.limits), Refusal::Occupied)?;
         // 13 "another in force shares a portion, unless ..."
-        refuse_if(self.live.iter().any(|that| overlaps(this, that)), Refusal::Overlap)?;
+        refuse_if(self.overlaps(this, None), Refusal::Overlap)?;
         // 22 "an LPA has no term or the minute is outside it"
         refuse_if(this.is_outside_term(stamp), Refusal::OutsideTerm)?;
 
         // "In force, workers on." Order 7: what it has recorded stays.
         self.put_in_force(at);
+        self.keep_sets();
         Ok(0)
     }
 
@@ -793,6 +816,7 @@ impl Board {
         for train in self.trains.iter_mut().filter(|train| train.with == Some(ended)) {
             train.with = None;
         }
+        self.keep_sets();
         Ok(0)
     }
 
@@ -825,8 +849,7 @@ impl Board {
         });
         refuse_if(occupied, Refusal::Occupied)?;
         // 13 as for GRANT; "For 13 old isn't counted."
-        let overlap = self.live.iter().any(|that| that.number != the_old.number && overlaps(&the_new, that));
-        refuse_if(overlap, Refusal::Overlap)?;
+        refuse_if(self.overlaps(&the_new, Some(the_old.number)), Refusal::Overlap)?;
         // 22 "an LPA has no term or the minute is outside it", for the new
         refuse_if(the_new.is_outside_term(stamp), Refusal::OutsideTerm)?;
 
@@ -841,6 +864,7 @@ impl Board {
         for train in self.trains.iter_mut().filter(|train| train.with == Some(the_old.number)) {
             train.with = the_new.limits.hold(train.head).then_some(the_new.number);
         }
+        self.keep_sets();
         Ok(0)
     }
 
@@ -882,8 +906,11 @@ impl Board {
             None => !from_outside,
         };
         refuse_if(wrong_place, Refusal::NoTrain)?;
-        // 18 "gate blocked, no E and no W"
-        refuse_if(self.blocked.hold(gate_number) && e.is_none() && w.is_none(), Refusal::Blocked)?;
+        // 18 "gate blocked, no E and no W", by order 8 from the sets: an
+        // exclusive authority in force, or a TWA, has "to" in its limits if its
+        // set holds it
+        let no_e_no_w = !self.exclusive_held.hold(to) && !self.twa_held.hold(to);
+        refuse_if(self.blocked.hold(gate_number) && no_e_no_w, Refusal::Blocked)?;
         // 19 "authority and officer aren't those of E, else those of W, else 0
         // and 0"
         let pilot = e.or(w);
@@ -1073,7 +1100,8 @@ impl Board {
     /// train's number, head (99 for outside), rear and the authority it is with
     /// (0 for none), in 6 columns each, under two words. Order 6: under a third
     /// each gate that is out, by ascending number, with its paper and the one
-    /// that this replaced (0 for none).
+    /// that this replaced (0 for none). Order 8: under three more what is in
+    /// each of the sets, ascending.
     pub fn write_held(&self, output: &mut Vec<u8>) {
         output.extend_from_slice(b"authorities\n");
         for one in &self.live {
@@ -1089,6 +1117,14 @@ impl Board {
             if let Some(one) = booking {
                 let replaced = one.replaced.map_or(0, |paper| paper.0);
                 write_line(&[gate as u16, one.paper.0, replaced], output);
+            }
+        }
+        let sets = [("exclusive held", self.exclusive_held.0), ("twa held", self.twa_held.0), ("needed", self.needed.0)];
+        for (word, set) in sets {
+            output.extend_from_slice(word.as_bytes());
+            output.push(b'\n');
+            for one in (0..64).filter(|one| set >> one & 1 == 1) {
+                write_line(&[one], output);
             }
         }
     }
@@ -1154,16 +1190,39 @@ impl Board {
         self.live[at].stage = Stage::InForce;
         self.live[at].site = Site::WorkersOn;
     }
-}
 
-/// 13 "another in force shares a portion, unless this is a TWA and that is the
-/// TOA it has agreed"; order 4: "refusal 13 makes the matching exception", unless
-/// this is a TOA and that is the TWA it has joined. The number alone tells,
-/// since only a TWA records a TOA and only a TOA a TWA. This one is pending, so
-/// it is never its own other.
-fn overlaps(this: &Authority, that: &Authority) -> bool {
-    let agreed = this.agreed == Some(that.number);
-    that.is_in_force() && that.limits.share(this.limits) && !agreed
+    /// Order 8: "Every call keeps each equal to what the live authorities give".
+    /// They give another only where one comes into force or one in force ends,
+    /// so GRANT, FULFIL and CONTINUE make the sets anew; a refused call comes to
+    /// no such place. Made from those that are left, a gate that the ended one
+    /// needed stays in if another in force needs it.
+    fn keep_sets(&mut self) {
+        (self.exclusive_held, self.twa_held, self.needed) = (Portions(0), Portions(0), Gates(0));
+        for one in self.live.iter().filter(|one| one.is_in_force()) {
+            let its_set = if one.kind.is_exclusive() { &mut self.exclusive_held } else { &mut self.twa_held };
+            its_set.add_all(one.limits);
+            self.needed.add_all(one.needs);
+        }
+    }
+
+    /// 13 "another in force shares a portion, unless this is a TWA and that is
+    /// the TOA it has agreed"; order 4: "refusal 13 makes the matching
+    /// exception", unless this is a TOA and that is the TWA it has joined. The
+    /// number alone tells, since only a TWA records a TOA and only a TOA a TWA,
+    /// and who has been recorded is in force while it is live. At CONTINUE "old
+    /// isn't counted". Order 8: decided from the sets, "with the limits of each
+    /// authority that it excepts taken out of its set first"; no other of that
+    /// set shares a portion with it. This one is pending, so it is in neither
+    /// set.
+    fn overlaps(&self, this: &Authority, old: Option<AuthorityNumber>) -> bool {
+        let (mut exclusive_held, mut twa_held) = (self.exclusive_held, self.twa_held);
+        let excepted = |that: &Authority| this.agreed == Some(that.number) || old == Some(that.number);
+        for that in self.live.iter().filter(|that| excepted(that)) {
+            let its_set = if that.kind.is_exclusive() { &mut exclusive_held } else { &mut twa_held };
+            its_set.remove_all(that.limits);
+        }
+        this.limits.share(exclusive_held) || this.limits.share(twa_held)
+    }
 }
 
 // ---------------------------------------------------------------------------
