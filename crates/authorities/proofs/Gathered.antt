@@ -8,7 +8,7 @@ use mathlib.Core.List.{List, [], ◌∷◌, ◌++◌, append_assoc, append-nil}
 use lib.ListN.{length}
 use lib.Pow.{pow_pos, pow_mono}
 use Rattle.std.specs.Prelude.{Some}
-use Rattle.std.specs.List.{filter, fold}
+use Rattle.std.specs.List.{fold}
 use Rattle.std.proofs.lemmas.Bool.{cond_both}
 use Rattle.lists.proofs.Tests.{or_no_l, or_no_r}
 use Rattle.lists.proofs.Search.{any_append}
@@ -35,51 +35,40 @@ use Rattle.authorities.specs.Stored.{sets_of, is_held_as, held_as, is_needed_aga
 -- ---- the portions of a sort
 
 module _ (sort : Kind → Bool) where
-  -- an authority in force of the sort
-  abbrev pub picked : Authority → Bool
-  picked a = is_in_force a && sort a.kind
+  -- the limits of an authority in force of the sort, else none
+  abbrev pub limits_if : Authority → ℕ
+  limits_if a = cond (is_in_force a && sort a.kind) a.limits 0
+
+  has_limits : (p : ℕ) (a : Authority) → has p (limits_if a) ≡ holds_as sort p a
+  has_limits p a = go (is_in_force a && sort a.kind)
+    where
+      go : (t : Bool) → has p (cond t a.limits 0) ≡ (t && has p a.limits)
+      go true = refl
+      go false = has_none p
 
   held_none : 0 ≡ held_as sort []
   unfolding held_as
   held_none = is_set_of 64 0 (is_held_as sort []) (pow_pos 64) (λ p l. has_none p)
 
-  -- one authority more, which is picked: its limits are held too
-  module _ (xs : List Authority) (a : Authority) where
-    held_one : (p : ℕ) → is_held_as sort (xs ++ (a ∷ [])) p ≡ (is_held_as sort xs p || holds_as sort p a)
-    held_one p =
-        any_append (holds_as sort p) xs (a ∷ [])
-        ∙ ap (λ (t : Bool). is_held_as sort xs p || t) (or-false (holds_as sort p a))
-
-    held_more : picked a ≡ true → union (held_as sort xs) a.limits ≡ held_as sort (xs ++ (a ∷ []))
-    unfolding union held_as
-    held_more e =
-        set_of_agree 64 (in_either (set_of 64 (is_held_as sort xs)) a.limits) (is_held_as sort (xs ++ (a ∷ [])))
-        (λ p l. rw (in_set_of 64 (is_held_as sort xs) p l, held_one p, e) refl)
-
-    -- and which isn't: it holds nothing
-    held_same : picked a ≡ false → held_as sort xs ≡ held_as sort (xs ++ (a ∷ []))
-    unfolding held_as
-    held_same e =
-        set_of_agree 64 (is_held_as sort xs) (is_held_as sort (xs ++ (a ∷ [])))
-        (λ p l. rw (held_one p, e, or-false) refl)
-
-  -- what is held with one authority more, if it is picked
+  -- what is held with one authority more
   abbrev pub more : ℕ → Authority → ℕ
-  more held a = union held a.limits
+  more held a = union held (limits_if a)
 
-  held_from : (xs ys : List Authority) → fold more (held_as sort xs) (filter picked ys) ≡ held_as sort (xs ++ ys)
+  held_more : (xs : List Authority) (a : Authority) → more (held_as sort xs) a ≡ held_as sort (xs ++ (a ∷ []))
+  unfolding union held_as
+  held_more xs a =
+      set_of_agree 64 (in_either (set_of 64 (is_held_as sort xs)) (limits_if a)) (is_held_as sort (xs ++ (a ∷ [])))
+      (λ p l. rw (in_set_of 64 (is_held_as sort xs) p l, has_limits p a)
+      (sym (any_append (holds_as sort p) xs (a ∷ [])
+      ∙ ap (λ (t : Bool). is_held_as sort xs p || t) (or-false (holds_as sort p a)))))
+
+  held_from : (xs ys : List Authority) → fold more (held_as sort xs) ys ≡ held_as sort (xs ++ ys)
   held_from xs [] = rw append-nil refl
   held_from xs (a ∷ ys) =
-      go (picked a) refl (held_from (xs ++ (a ∷ [])) ys ∙ ap (held_as sort) (append_assoc xs (a ∷ []) ys))
-    where
-      go : (t : Bool) → picked a ≡ t
-          → fold more (held_as sort (xs ++ (a ∷ []))) (filter picked ys) ≡ held_as sort (xs ++ (a ∷ ys))
-          → fold more (held_as sort xs) (cond t (a ∷ filter picked ys) (filter picked ys))
-          ≡ held_as sort (xs ++ (a ∷ ys))
-      go true e ih = ap (λ (held : ℕ). fold more held (filter picked ys)) (held_more xs a e) ∙ ih
-      go false e ih = rw (held_same xs a e) ih
+      ap (λ (held : ℕ). fold more held ys) (held_more xs a) ∙ held_from (xs ++ (a ∷ [])) ys
+      ∙ ap (held_as sort) (append_assoc xs (a ∷ []) ys)
 
-  pub held_gathered : (xs : List Authority) → fold more 0 (filter picked xs) ≡ held_as sort xs
+  pub held_gathered : (xs : List Authority) → fold more 0 xs ≡ held_as sort xs
   held_gathered xs = rw held_none (held_from [] xs)
 
 -- ---- the three together

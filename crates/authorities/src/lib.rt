@@ -2,9 +2,9 @@
 // what the sets of held portions and needed gates say of them (02, order 8).
 #![tactic(auto)]
 
-ghost use Rattle.std.specs.Prelude.{◌≡◌, find};
+ghost use Rattle.std.specs.Prelude.{◌≡◌, ◌&&◌, cond, find};
 ghost use Rattle.lists.specs.Search.{first};
-ghost use Rattle.rules.specs.Board.{is_authority, no_authority};
+ghost use Rattle.rules.specs.Board.{is_authority, is_in_force, no_authority};
 ghost use Rattle.rules.specs.Stored.{holds_as};
 ghost use Rattle.authorities.specs.Sorts.{kind_test};
 
@@ -31,6 +31,17 @@ fn is_of(kind: Kind, sort: Sort) -> bool
     match sort {
         Sort::Exclusive => kind != Kind::Twa,
         Sort::Twa => kind == Kind::Twa,
+    }
+}
+
+// The limits, where the authority is in force and of the sort; else none.
+fn limits_if(a: Authority, sort: Sort) -> u64
+    ensures { result ≡ cond (is_in_force a && kind_test sort a.kind) a.limits 0 }
+{
+    if a.in_force && is_of(a.kind, sort) {
+        a.limits
+    } else {
+        0
     }
 }
 

@@ -1,24 +1,13 @@
 // Refusal 13, decided from the sets of held portions (02, order 8).
-ghost use Rattle.std.specs.Prelude.{◌≡◌, ◌&&◌, cond};
-ghost use Rattle.rules.specs.Board.{board_of, is_in_force};
+ghost use Rattle.std.specs.Prelude.{◌≡◌};
+ghost use Rattle.rules.specs.Board.{board_of};
 ghost use Rattle.rules.specs.Stored.{limits_as, rested_on, left_as, overlaps_held};
 ghost use Rattle.authorities.specs.Sorts.{kind_test};
 
-use crate::{Sort, find, is_of};
+use crate::{Sort, find, limits_if};
 use rules::{Authority, AuthorityNo, Kind, Register};
 
-// The limits, where the authority is in force and of the sort; else none.
-fn limits_if(a: Authority, sort: Sort) -> u64
-    ensures { result ≡ cond (is_in_force a && kind_test sort a.kind) a.limits 0 }
-{
-    if a.in_force && is_of(a.kind, sort) {
-        a.limits
-    } else {
-        0
-    }
-}
-
-// The same of the authority with that number; none where it isn't live.
+// The limits of the authority with that number, where it is live, in force and of the sort; else none.
 fn limits_as(register: &Register, n: AuthorityNo, sort: Sort) -> u64
     ensures { result ≡ limits_as (kind_test sort) (board_of register.now) n }
 {

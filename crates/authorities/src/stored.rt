@@ -6,7 +6,7 @@ ghost use Rattle.rules.specs.Refusals.{in_force_needs};
 ghost use Rattle.authorities.specs.Sorts.{kind_test};
 ghost use Rattle.authorities.specs.Stored.{held_as, needed_again, sets_again};
 
-use crate::{Sort, is_of};
+use crate::{Sort, limits_if};
 use arrayvec::ArrayVec;
 use rules::{Authority, Gate, Register};
 
@@ -25,8 +25,7 @@ fn held_as(authorities: &[Authority], sort: Sort) -> u64
 {
     authorities
         .iter()
-        .filter(|a| a.in_force && is_of(a.kind, sort))
-        .fold(0, |held, a| sets::union(held, a.limits))
+        .fold(0, |held, a| sets::union(held, limits_if(*a, sort)))
 }
 
 // An authority in force needs the gate.

@@ -1,17 +1,15 @@
--- `authorities::stored::held_as` meets its contract: the closures pick the authorities in force of the sort and add the
--- limits of each. Assumes nothing.
+-- `authorities::stored::held_as` meets its contract: the closure adds the limits of each authority in force of the sort.
+-- Assumes nothing.
 use Rattle.std.proofs.Common.{◌∙◌, rules, tests}
 use Rattle.std.proofs.lemmas.Iterator.{YieldsList-from_slice}
-use Rattle.std.proofs.lemmas.Iterator.Consumers.{YieldsList-from_filter, fold_from_yields_List}
+use Rattle.std.proofs.lemmas.Iterator.Consumers.{fold_from_yields_List}
 use Rattle.authorities.specs.Sorts.{kind_test}
-use Rattle.authorities.proofs.Gathered.{picked, more, held_gathered}
+use Rattle.authorities.proofs.Gathered.{more, held_gathered}
 use Rattle.authorities.proofs.stored.held_as.Goals as goal
 
 pub returns : goal.returns
 returns c =
     let sort = kind_test c.args.sort in
-    fold_from_yields_List _ (more sort) 0 _ c.fold.ensures.ran
-    (YieldsList-from_filter _ (picked sort) (YieldsList-from_slice c.args.authorities.now cc) c.filter.ensures.closure
-    (λ a b f k. search (rules, tests)))
+    fold_from_yields_List _ (more sort) 0 _ c.fold.ensures.ran (YieldsList-from_slice c.args.authorities.now cc)
     (λ held a r f k. search (rules, tests))
     ∙ held_gathered sort _
