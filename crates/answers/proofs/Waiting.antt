@@ -4,21 +4,16 @@ use Prim.Native.Nat.{ℕ}
 use mathlib.Core.Path.{◌≡◌, refl, sym, ◌∙◌}
 use mathlib.Core.Bool.{Bool, true, false, cond}
 use mathlib.Core.List.{Memᴰ}
-use borrow.Author.Tests.{eq-eqb, not-false}
+use borrow.Author.Tests.{not-false}
 use Rattle.std.specs.Prelude.{Result, Ok, Err}
-use Rattle.lists.proofs.Search.{any_yes}
 use Rattle.rules.specs.declared.AuthorityNo.{AuthorityNo}
 use Rattle.rules.specs.declared.Authority.{Authority}
 use Rattle.rules.specs.declared.Register.{Register}
 use Rattle.rules.specs.declared.refusal.Refusal.{Refusal}
 use Rattle.rules.specs.declared.refusal.Refusal.TheVariants.{NotLive, Stage, Officer}
-use Rattle.rules.specs.Board.{board_of, is_in_force, authority_no, is_authority, live, authority}
-use Rattle.rules.specs.Refusals.{not_live, overlaps}
-use Rattle.rules.specs.Step.{Kept}
-use Rattle.rules.specs.Stored.{overlaps_held}
+use Rattle.rules.specs.Board.{board_of, live, authority}
+use Rattle.rules.specs.Refusals.{not_live}
 use Rattle.rules.proofs.Follows.{authority_there}
-use Rattle.rules.proofs.Stays.{the_named}
-use Rattle.rules.proofs.HeldSets.{kept_13}
 use Rattle.answers.specs.declared.answer.Stage.TheVariants.{Pending}
 use Rattle.answers.specs.Held.{held_by}
 

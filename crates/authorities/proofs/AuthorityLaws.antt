@@ -42,3 +42,6 @@ module _ (b : Board) (p : ℕ) {w : Option Authority} (looked : w ≡ find (is_w
   pub is_the_w : {a : Authority} → w ≡ Some a → (any_w b p ≡ true) × (the_w b p ≡ a)
   unfolding any_w the_w
   is_the_w is = found_is (is_w p) no_authority b.authorities (sym looked ∙ is)
+
+-- for `search`: what is found, or not, of E and of W
+pub ruleset holders = (no_e, is_the_e, no_w, is_the_w)

@@ -10,6 +10,7 @@ use Rattle.rules.specs.declared.AuthorityNo.{AuthorityNo}
 use Rattle.rules.specs.declared.Authority.{Authority}
 use Rattle.rules.specs.Board.{Board, no_authority, is_in_force, is_authority, live, authority}
 use Rattle.rules.specs.Stored.{limits_as}
+use Rattle.authorities.specs.Sorts.{limits_if}
 
 module _ (sort : Kind → Bool) (b : Board) (n : AuthorityNo) {a : Authority}
     (looked : a ≡ unwrap_or (find (is_authority n) b.authorities) no_authority) where
@@ -23,11 +24,11 @@ module _ (sort : Kind → Bool) (b : Board) (n : AuthorityNo) {a : Authority}
 
   by_live : (t : Bool) → live b n ≡ t
       → cond (t && is_in_force (authority b n) && sort (authority b n).kind) (authority b n).limits 0
-      ≡ cond (is_in_force a && sort a.kind) a.limits 0
+      ≡ limits_if sort a
   by_live true l = rw is_a refl
-  by_live false l = sym (ap (λ (x : Authority). cond (is_in_force x && sort x.kind) x.limits 0) (none_live l))
+  by_live false l = sym (ap (limits_if sort) (none_live l))
 
   -- none that isn't live is in force
-  pub limits_of : limits_as sort b n ≡ cond (is_in_force a && sort a.kind) a.limits 0
+  pub limits_found : limits_as sort b n ≡ limits_if sort a
   unfolding limits_as
-  limits_of = by_live (live b n) refl
+  limits_found = by_live (live b n) refl

@@ -30,16 +30,14 @@ use Rattle.rules.proofs.HeldSets.{past_plan, kept_16}
 use Rattle.rules.proofs.Safety.{gates_stay}
 use Rattle.rules.proofs.SetsStay.{NeededAsBefore}
 use Rattle.rules.specs.Stored.{holds_as}
-use Rattle.authorities.specs.Stored.{sets_of, is_held_as, held_as, is_needed_again, needed_again, sets_again}
+use Rattle.authorities.specs.declared.stored.StoredSets.{StoredSets}
+use Rattle.authorities.specs.Sorts.{limits_if}
+use Rattle.authorities.specs.Stored.{is_held_as, held_as, is_needed_again, needed_again, sets_again}
 
 -- ---- the portions of a sort
 
 module _ (sort : Kind → Bool) where
-  -- the limits of an authority in force of the sort, else none
-  abbrev pub limits_if : Authority → ℕ
-  limits_if a = cond (is_in_force a && sort a.kind) a.limits 0
-
-  has_limits : (p : ℕ) (a : Authority) → has p (limits_if a) ≡ holds_as sort p a
+  has_limits : (p : ℕ) (a : Authority) → has p (limits_if sort a) ≡ holds_as sort p a
   has_limits p a = go (is_in_force a && sort a.kind)
     where
       go : (t : Bool) → has p (cond t a.limits 0) ≡ (t && has p a.limits)
@@ -52,12 +50,12 @@ module _ (sort : Kind → Bool) where
 
   -- what is held with one authority more
   abbrev pub more : ℕ → Authority → ℕ
-  more held a = union held (limits_if a)
+  more held a = union held (limits_if sort a)
 
   held_more : (xs : List Authority) (a : Authority) → more (held_as sort xs) a ≡ held_as sort (xs ++ (a ∷ []))
   unfolding union held_as
   held_more xs a =
-      set_of_agree 64 (in_either (set_of 64 (is_held_as sort xs)) (limits_if a)) (is_held_as sort (xs ++ (a ∷ [])))
+      set_of_agree 64 (in_either (set_of 64 (is_held_as sort xs)) (limits_if sort a)) (is_held_as sort (xs ++ (a ∷ [])))
       (λ p l. rw (in_set_of 64 (is_held_as sort xs) p l, has_limits p a)
       (sym (any_append (holds_as sort p) xs (a ∷ [])
       ∙ ap (λ (t : Bool). is_held_as sort xs p || t) (or-false (holds_as sort p a)))))
@@ -72,6 +70,10 @@ module _ (sort : Kind → Bool) where
   held_gathered xs = rw held_none (held_from [] xs)
 
 -- ---- the three together
+
+-- what the live authorities of the board give
+unfoldable pub sets_of : Board → StoredSets
+sets_of b = record { exclusive_held = exclusive_portions b; twa_held = twa_portions b; needed = needed_gates b }
 
 module _ (r : Register) (k : Kept r) (c : Call) where
   abbrev left : Board

@@ -9,12 +9,8 @@ use Rattle.rules.specs.declared.Authority.{Authority}
 use Rattle.rules.specs.Board.{Board, gate_at, needs, exclusive, is_twa}
 use Rattle.rules.specs.Call.{gate_of}
 use Rattle.rules.specs.Refusals.{in_force_needs}
-use Rattle.rules.specs.Stored.{exclusive_portions, twa_portions, needed_gates, holds_as}
+use Rattle.rules.specs.Stored.{holds_as}
 use Rattle.authorities.specs.declared.stored.StoredSets.{StoredSets}
-
--- what the live authorities of the board give
-unfoldable pub sets_of : Board → StoredSets
-sets_of b = record { exclusive_held = exclusive_portions b; twa_held = twa_portions b; needed = needed_gates b }
 
 -- the portions that those in force of a sort have
 abbrev pub is_held_as : (Kind → Bool) → List Authority → ℕ → Bool

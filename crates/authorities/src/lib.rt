@@ -2,11 +2,11 @@
 // what the sets of held portions and needed gates say of them (02, order 8).
 #![tactic(auto)]
 
-ghost use Rattle.std.specs.Prelude.{◌≡◌, ◌&&◌, cond, find};
+ghost use Rattle.std.specs.Prelude.{◌≡◌, find};
 ghost use Rattle.lists.specs.Search.{first};
-ghost use Rattle.rules.specs.Board.{is_authority, is_in_force, no_authority};
+ghost use Rattle.rules.specs.Board.{is_authority, no_authority};
 ghost use Rattle.rules.specs.Stored.{holds_as};
-ghost use Rattle.authorities.specs.Sorts.{kind_test};
+ghost use Rattle.authorities.specs.Sorts.{kind_test, limits_if};
 
 mod holding;
 mod overlap;
@@ -36,7 +36,7 @@ fn is_of(kind: Kind, sort: Sort) -> bool
 
 // The limits, where the authority is in force and of the sort; else none.
 fn limits_if(a: Authority, sort: Sort) -> u64
-    ensures { result ≡ cond (is_in_force a && kind_test sort a.kind) a.limits 0 }
+    ensures { result ≡ limits_if (kind_test sort) a }
 {
     if a.in_force && is_of(a.kind, sort) {
         a.limits

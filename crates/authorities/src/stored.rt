@@ -30,7 +30,7 @@ fn held_as(authorities: &[Authority], sort: Sort) -> u64
 
 // An authority in force needs the gate.
 #[tactic(auto, unfolding(rules::specs::Refusals::in_force_needs))]
-fn is_needed(authorities: &[Authority], gate: Gate) -> bool
+fn is_still_needed(authorities: &[Authority], gate: Gate) -> bool
     ensures { result ≡ any (in_force_needs gate) authorities.now }
 {
     authorities
@@ -43,7 +43,7 @@ fn is_needed_again(authorities: &[Authority], gate: Gate, was: bool, x: u64, y: 
     ensures { result ≡ cond (needs x gate || needs y gate) (any (in_force_needs gate) authorities.now) was }
 {
     if gates::is_needed(x, gate) || gates::is_needed(y, gate) {
-        is_needed(authorities, gate)
+        is_still_needed(authorities, gate)
     } else {
         was
     }

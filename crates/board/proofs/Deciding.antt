@@ -36,8 +36,7 @@ use Rattle.rules.proofs.SetsStay.{sets_stay, sets_stamped, granted_beside, fulfi
 use Rattle.rules.proofs.SortsKept.{sorts_after}
 use Rattle.rules.proofs.Terms.{starts_after}
 use Rattle.authorities.specs.declared.stored.StoredSets.{StoredSets}
-use Rattle.authorities.specs.Stored.{sets_of}
-use Rattle.authorities.proofs.Gathered.{gathered}
+use Rattle.authorities.proofs.Gathered.{sets_of, gathered}
 use Rattle.board.specs.Taking.{with_room, Allowed, TakePost, stored_in, named_limits, sets_left, CarriedOut}
 
 -- ---- what the decoded call says of the answer

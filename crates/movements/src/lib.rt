@@ -42,7 +42,7 @@ fn is_taken(register: &Register, t: TrainNo, to: u16) -> bool
 }
 
 // 14: W has workers on.
-#[tactic(auto, using(authorities::proofs::AuthorityLaws::no_w, authorities::proofs::AuthorityLaws::is_the_w), unfolding(rules::specs::Board::board_of, rules::specs::Refusals::worked_on, rules::specs::Refusals::is_w))]
+#[tactic(auto, using(authorities::proofs::AuthorityLaws::holders), unfolding(rules::specs::Board::board_of, rules::specs::Refusals::worked_on, rules::specs::Refusals::is_w))]
 fn is_worked_on(register: &Register, to: u16) -> bool
     requires { Kept register.now }
     ensures { result ≡ worked_on (board_of register.now) to }
@@ -65,7 +65,7 @@ fn is_barred(register: &Register, g: GateNo, to: u16) -> bool
 }
 
 // E, else W, else none.
-#[tactic(auto, using(authorities::proofs::AuthorityLaws::no_e, authorities::proofs::AuthorityLaws::is_the_e, authorities::proofs::AuthorityLaws::no_w, authorities::proofs::AuthorityLaws::is_the_w), unfolding(rules::specs::Board::board_of, rules::specs::Refusals::pilot, rules::specs::Refusals::is_e, rules::specs::Refusals::is_w))]
+#[tactic(auto, using(authorities::proofs::AuthorityLaws::holders), unfolding(rules::specs::Board::board_of, rules::specs::Refusals::pilot, rules::specs::Refusals::is_e, rules::specs::Refusals::is_w))]
 fn pilot(register: &Register, to: u16) -> Authority
     requires { Kept register.now }
     ensures { result ≡ pilot (board_of register.now) to }

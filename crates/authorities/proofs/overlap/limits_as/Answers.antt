@@ -4,7 +4,7 @@ use Rattle.std.specs.Prelude.{find}
 use Rattle.std.specs.Option.{unwrap_or}
 use Rattle.rules.specs.Board.{board_of, is_authority, no_authority}
 use Rattle.authorities.specs.Sorts.{kind_test}
-use Rattle.authorities.proofs.Excepted.{limits_of}
+use Rattle.authorities.proofs.Excepted.{limits_found}
 use Rattle.authorities.proofs.overlap.limits_as.Goals as goal
 
 pub returns : goal.returns
@@ -14,4 +14,4 @@ returns c =
     let looked : c.unwrap_or_default.result
     ≡ unwrap_or (find (is_authority c.args.n) c.args.register.now.authorities.items) no_authority =
     rw (← c.deref.ensures.0, ← c.find.ensures) found in
-    c.limits_if.ensures ∙ sym (limits_of (kind_test c.args.sort) (board_of c.args.register.now) c.args.n looked)
+    c.limits_if.ensures ∙ sym (limits_found (kind_test c.args.sort) (board_of c.args.register.now) c.args.n looked)

@@ -1,5 +1,5 @@
--- `authorities::stored::held_as` meets its contract: the closure adds the limits of each authority in force of the sort.
--- Assumes nothing.
+-- `authorities::stored::held_as` meets its contract: the closure adds the limits of each authority in force of the
+-- sort. Assumes nothing.
 use Rattle.std.proofs.Common.{◌∙◌, rules, tests}
 use Rattle.std.proofs.lemmas.Iterator.{YieldsList-from_slice}
 use Rattle.std.proofs.lemmas.Iterator.Consumers.{fold_from_yields_List}
