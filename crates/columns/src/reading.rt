@@ -11,26 +11,26 @@ pub fn blanks_of(text: &[u8]) -> usize
 }
 
 // The number that the digits make, where each byte is one and the number is at most `most`.
-fn number_from(digits: &[u8], most: u16) -> Option<u16>
+fn number_from(digits: &[u8], most: u32) -> Option<u32>
     ensures { result ≡ scan_digits most 0 digits.now }
 {
-    let mut number: u32 = 0;
+    let mut number: u64 = 0;
     for byte in digits {
         let digit @ b'0'..=b'9' = *byte else {
             return None;
         };
-        number = number * 10 + u32::from(digit - b'0');
-        if u32::from(most) < number {
+        number = number * 10 + u64::from(digit - b'0');
+        if u64::from(most) < number {
             return None;
         }
     }
     // Kept: a cast, which the check proves to lose nothing: `try_from` would have an error that no number gives.
-    Some(number as u16)
+    Some(number as u32)
 }
 
 // The number in the text, where the text is a number in columns, right-justified behind blanks with no leading zero,
 // and the number is at most `most`.
-pub fn read_column(text: &[u8], most: u16) -> Option<u16>
+pub fn read_column(text: &[u8], most: u32) -> Option<u32>
     ensures { result ≡ read_column most text.now }
 {
     let digits = &text[blanks_of(text)..];
@@ -55,6 +55,7 @@ fn is_line_feed(text: &[u8]) -> bool
 // The N numbers of a text that is a row of columns of the given widths, then a line feed and no more; each is at most
 // `most`. None where the columns are more or fewer than N.
 // Kept: a number's place by its index: of what is written through an adapter of `iter_mut` a proof knows nothing.
+// Kept: a cast to 16 bits, as in `number_from`.
 pub fn read_row<const N: usize>(text: &[u8], widths: &[u8], most: u16) -> Option<[u16; N]>
     ensures { result ≡ numbers_in N most widths.now text.now }
 {
@@ -65,7 +66,7 @@ pub fn read_row<const N: usize>(text: &[u8], widths: &[u8], most: u16) -> Option
     let mut rest = text;
     for (place, width) in widths.iter().enumerate() {
         let (column, behind) = rest.split_at_checked(usize::from(*width))?;
-        numbers[place] = read_column(column, most)?;
+        numbers[place] = read_column(column, u32::from(most))? as u16;
         rest = behind;
     }
     if is_line_feed(rest) {

@@ -30,12 +30,12 @@ use Rattle.rules.specs.Step.{after, allotted}
 abbrev pub greatest : ℕ
 greatest = 25
 
--- the numbers ascend, all above n, none above the greatest
-unfoldable pub ascends : ℕ → List Refusal → Bool
-ascends n [] = leb n greatest
-ascends n (r ∷ rs) = ltb n r.number && ascends r.number rs
+-- the numbers ascend, all above n, none above the greatest, `most`
+unfoldable pub ascends : ℕ → ℕ → List Refusal → Bool
+ascends most n [] = leb n most
+ascends most n (r ∷ rs) = ltb n r.number && ascends most r.number rs
 
-own-ascends : (b : Board) (s : Seven) (c : Option Call) → ascends 4 (own b s c) ≡ true
+own-ascends : (b : Board) (s : Seven) (c : Option Call) → ascends greatest 4 (own b s c) ≡ true
 unfolding ascends own
 own-ascends b s None = refl
 own-ascends b s (Some (Request kind low high officer)) = refl
@@ -57,7 +57,7 @@ own-ascends b s (Some (BookOut g paper)) = refl
 own-ascends b s (Some (BookIn g paper certified new)) = refl
 
 -- THEOREM: the conditions of every call are listed in ascending order, from 1 on, so the first that holds is the lowest
-pub ascending : (b : Board) (s : Seven) (room : ℕ) → ascends 0 (conditions b s room) ≡ true
+pub ascending : (b : Board) (s : Seven) (room : ℕ) → ascends greatest 0 (conditions b s room) ≡ true
 unfolding ascends conditions
 ascending b s room = own-ascends b s (named s)
 
@@ -82,13 +82,14 @@ pub data Lowest (rs : List Refusal) : ℕ → Type 0 where
   none : NoneHolds rs → Lowest rs 0
   some : {n : ℕ} → 0 < n → Holds n rs → NoneBelow n rs → Lowest rs n
 
-above : (k : ℕ) (rs : List Refusal) → ascends k rs ≡ true → (r : Refusal) → Member r rs → k < r.number
+above : (most k : ℕ) (rs : List Refusal) → ascends most k rs ≡ true → (r : Refusal) → Member r rs → k < r.number
 unfolding ascends
-above k (q ∷ rs) h r m =
-    let here : k < q.number = ltb-true k q.number (and_l (ltb k q.number) (ascends q.number rs) h) in
+above most k (q ∷ rs) h r m =
+    let here : k < q.number = ltb-true k q.number (and_l (ltb k q.number) (ascends most q.number rs) h) in
+    let rest = and_r (ltb k q.number) (ascends most q.number rs) h in
     ⊎_elim (λ e. omega (arith, ap (λ (x : Refusal). x.number) e))
-    (λ t. omega (arith, above q.number rs (and_r (ltb k q.number) (ascends q.number rs) h) r t)) (Memᴰ.cases_cons m)
-above k [] h r m = elim m [ ]
+    (λ t. omega (arith, above most q.number rs rest r t)) (Memᴰ.cases_cons m)
+above most k [] h r m = elim m [ ]
 
 lowest_step : (k : ℕ) (q : Refusal) (rs : List Refusal) → k < q.number
     → ((r : Refusal) → Member r rs → q.number < r.number)
@@ -105,27 +106,27 @@ lowest_step k q rs h later ih false e = more ih
         some p (record { refusal = w.refusal; member = Memᴰ.tail w.member; number = w.number; holds = w.holds })
         (λ r m l. ⊎_elim (λ i. ap (λ (x : Refusal). x.holds) i ∙ e) (λ t. f r t l) (Memᴰ.cases_cons m))
 
-lowest_is : (k : ℕ) (rs : List Refusal) → ascends k rs ≡ true → Lowest rs (lowest rs)
+pub lowest_is : (most k : ℕ) (rs : List Refusal) → ascends most k rs ≡ true → Lowest rs (lowest rs)
 unfolding ascends lowest
-lowest_is k [] h = none (λ r m. elim m [ ])
-lowest_is k (q ∷ rs) h =
-    let rest = and_r (ltb k q.number) (ascends q.number rs) h in
-    lowest_step k q rs (ltb-true k q.number (and_l (ltb k q.number) (ascends q.number rs) h)) (above q.number rs rest)
-    (lowest_is q.number rs rest) q.holds refl
+lowest_is most k [] h = none (λ r m. elim m [ ])
+lowest_is most k (q ∷ rs) h =
+    let rest = and_r (ltb k q.number) (ascends most q.number rs) h in
+    lowest_step k q rs (ltb-true k q.number (and_l (ltb k q.number) (ascends most q.number rs) h))
+    (above most q.number rs rest) (lowest_is most q.number rs rest) q.holds refl
 
 -- THEOREM, demand 2 in one: the answer is 0 and no condition holds, or it is the number of the lowest condition that
 -- holds
 pub answer_lowest : (b : Board) (s : Seven) (room : ℕ) → Lowest (conditions b s room) (answer b s room)
 unfolding answer
-answer_lowest b s room = lowest_is 0 (conditions b s room) (ascending b s room)
+answer_lowest b s room = lowest_is greatest 0 (conditions b s room) (ascending b s room)
 
 -- ---- the same, as the two equivalences
 
-none_holds : {rs : List Refusal} {n : ℕ} → Lowest rs n → n ≡ 0 → NoneHolds rs
+pub none_holds : {rs : List Refusal} {n : ℕ} → Lowest rs n → n ≡ 0 → NoneHolds rs
 none_holds (none f) e = f
 none_holds (some p w f) e = absurd (omega arith)
 
-is_zero : {rs : List Refusal} {n : ℕ} → Lowest rs n → NoneHolds rs → n ≡ 0
+pub is_zero : {rs : List Refusal} {n : ℕ} → Lowest rs n → NoneHolds rs → n ≡ 0
 is_zero (none f) h = refl
 is_zero (some p w f) h = absurd (false≢true (sym (h w.refusal w.member) ∙ w.holds))
 
@@ -133,11 +134,11 @@ pub record Refused (n : ℕ) (rs : List Refusal) : Type 0 where
   pub holds : Holds n rs
   pub lower : NoneBelow n rs
 
-refused_by : {rs : List Refusal} {m n : ℕ} → Lowest rs m → m ≡ n → 0 < n → Refused n rs
+pub refused_by : {rs : List Refusal} {m n : ℕ} → Lowest rs m → m ≡ n → 0 < n → Refused n rs
 refused_by (none f) e p = absurd (omega arith)
 refused_by {rs} (some q w f) e p = rw (← e) (record { holds = w; lower = f })
 
-is_refused : {rs : List Refusal} {m n : ℕ} → Lowest rs m → Refused n rs → m ≡ n
+pub is_refused : {rs : List Refusal} {m n : ℕ} → Lowest rs m → Refused n rs → m ≡ n
 is_refused (none f) r = absurd (false≢true (sym (f r.holds.refusal r.holds.member) ∙ r.holds.holds))
 is_refused {m = m} {n = n} (some q w f) r =
     let not-less : m < n → ⊥ = λ l. false≢true (sym (r.lower w.refusal w.member (omega (arith, w.number))) ∙ w.holds) in
@@ -206,18 +207,18 @@ at_none n (r ∷ rs) h = at_step n r rs (h r (Memᴰ.head refl)) (at_none n rs (
 -- ---- no answer is above the greatest refusal
 
 -- what the numbers are above is itself at most the greatest
-below_greatest : (n : ℕ) (rs : List Refusal) → ascends n rs ≡ true → n ≤ greatest
+below_greatest : (n : ℕ) (rs : List Refusal) → ascends greatest n rs ≡ true → n ≤ greatest
 unfolding ascends
 below_greatest n [] h = leb-true n greatest h
 below_greatest n (r ∷ rs) h =
-    let more = ltb-true n r.number (and_l (ltb n r.number) (ascends r.number rs) h) in
-    omega (arith, below_greatest r.number rs (and_r (ltb n r.number) (ascends r.number rs) h))
+    let more = ltb-true n r.number (and_l (ltb n r.number) (ascends greatest r.number rs) h) in
+    omega (arith, below_greatest r.number rs (and_r (ltb n r.number) (ascends greatest r.number rs) h))
 
-lowest_most : (n : ℕ) (rs : List Refusal) → ascends n rs ≡ true → lowest rs ≤ greatest
+lowest_most : (n : ℕ) (rs : List Refusal) → ascends greatest n rs ≡ true → lowest rs ≤ greatest
 unfolding ascends lowest
 lowest_most n [] h = omega arith
 lowest_most n (r ∷ rs) h =
-    let rest = and_r (ltb n r.number) (ascends r.number rs) h in
+    let rest = and_r (ltb n r.number) (ascends greatest r.number rs) h in
     cond_both r.holds r.number (lowest rs) (λ n. n ≤ greatest) (λ e. below_greatest r.number rs rest)
     (λ e. lowest_most r.number rs rest)
 

@@ -18,6 +18,8 @@ pub mod Terms
 pub mod Bookings
 pub mod HeldSets
 pub mod SetsStay
+pub mod Gaps
+pub mod PrintedLines
 pub mod Sheets
 pub mod SortsKept
 pub mod SetsShown

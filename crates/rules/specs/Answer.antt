@@ -7,9 +7,9 @@ use Rattle.rules.specs.declared.refusal.Refusal.TheVariants.{ShortLine, NoSuchCa
 use Rattle.rules.specs.declared.refusal.Refusal.TheVariants.{Officer, AlreadySo, Full, NoFacility, Unprotected}
 use Rattle.rules.specs.declared.refusal.Refusal.TheVariants.{Occupied, Overlap, Site, Assurance, StillNeeded, NoTrain}
 use Rattle.rules.specs.declared.refusal.Refusal.TheVariants.{Blocked, NotPiloted, Plan, Notice, Term, ShortPage}
-use Rattle.rules.specs.declared.refusal.Refusal.TheVariants.{Distance, BlockOn}
+use Rattle.rules.specs.declared.refusal.Refusal.TheVariants.{Distance, BlockOn, Worksites, TooFarApart}
 
--- "Refusal words"; 02: 21 and 22 order 1, 23 order 2, 24 order 4, 25 order 6
+-- "Refusal words"; 02: 21 and 22 order 1, 23 order 2, 24 order 4, 25 order 6, 26 and 27 order 9
 abbrev pub refusal_no : Refusal → ℕ
 refusal_no ShortLine = 1
 refusal_no NoSuchCall = 2
@@ -36,6 +36,8 @@ refusal_no Term = 22
 refusal_no ShortPage = 23
 refusal_no Distance = 24
 refusal_no BlockOn = 25
+refusal_no Worksites = 26
+refusal_no TooFarApart = 27
 
 -- "the answer (0 or refusal)"
 abbrev pub answer_no : {A : Type 0} → Result A Refusal → ℕ

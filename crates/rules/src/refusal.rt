@@ -1,5 +1,5 @@
 // The refusals by document 01's words, each with its number; 21 and 22 are 02's order 1, 23 its order 2, 24 its order
-// 4, 25 its order 6.
+// 4, 25 its order 6, 26 and 27 its order 9.
 ghost use Rattle.std.specs.Prelude.{◌≡◌};
 ghost use Rattle.rules.specs.Answer.{refusal_no};
 
@@ -33,6 +33,10 @@ pub enum Refusal {
     Distance = 24,
     // BOOK IN would restore a gate whose block is on.
     BlockOn = 25,
+    // The kind, the officer's statement or the list of worksites is not as it has to be.
+    Worksites = 26,
+    // Two worksites of a TWA are more than 3500 metres apart.
+    TooFarApart = 27,
 }
 
 impl From<Refusal> for u16 {

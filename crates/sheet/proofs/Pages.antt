@@ -19,8 +19,8 @@ use Rattle.rules.specs.Call.{minute_of}
 use Rattle.rules.specs.Step.{Kept}
 use Rattle.rules.specs.Sheet.{authority_cells, authority_widths, authority_line, total_cells, total_widths, total_line}
 use Rattle.rules.specs.Sheet.{sheet_lines, page_of, sheet, is_short, SheetPost}
+use Rattle.rules.proofs.PrintedLines.{Printed, printed_next, Listed, listed_next}
 use Rattle.sheet.proofs.Fitting.{authority_73, total_73}
-use Rattle.sheet.proofs.PageLines.{Printed, printed_next}
 
 -- ---- the live authorities
 
@@ -35,30 +35,24 @@ module _ (r : Register) (k : Kept r) (xs : List Authority) (e : xs ≡ r.authori
   unfolding board_of
   starts_at i d h = k.starts (get_or xs i d) (subst (Memᴰ (get_or xs i d)) e (member_at d xs i h))
 
--- the lines of the first i authorities stand on the page
-abbrev pub Listed : List Authority → ℕ → ℕ → List ℕ → List ℕ → Type 0
-Listed xs now i page₀ page = Printed (map (authority_line now) (take i xs)) (73 * i) page₀ page
+-- ---- a line on the page
 
-module _ (xs : List Authority) (now i : ℕ) (page₀ page : List ℕ) (b : Listed xs now i page₀ page) where
+module _ (xs : List Authority) (now i : ℕ) (page₀ page : List ℕ)
+    (b : Listed (authority_line now) 73 xs page₀ i page) where
   -- there is room for one line more
   pub listed_room : i < length xs → length xs ≤ 32 → 2409 ≤ length page₀ → 73 * i + 73 ≤ length page
   listed_room h few room = omega (arith, b.long)
 
   -- and it is written
-  pub listed_next : i < length xs → length xs ≤ 32 → 2409 ≤ length page₀
+  pub line_written : i < length xs → length xs ≤ 32 → 2409 ≤ length page₀
       → (d : Authority) (cells : List Cell) (line : List ℕ)
       → (cells ≡ authority_cells now (get_or xs i d)) × (cells_fit authority_widths cells ≡ true)
       → line ≡ cell_line authority_widths cells
-      → Listed xs now (i + 1) page₀ (put_mid (73 * i) (73 * i + 73 - 73 * i) page line)
+      → Listed (authority_line now) 73 xs page₀ (i + 1) (put_mid (73 * i) (73 * i + 73 - 73 * i) page line)
   unfolding authority_line
-  listed_next h few room d cells line c e =
-      let is : line ≡ authority_line now (get_or xs i d) = e ∙ ap (cell_line authority_widths) c.0 in
-      let next : map (authority_line now) (take (i + 1) xs) ≡ map (authority_line now) (take i xs) ++ (line ∷ []) =
-      rw (add-one, take-suc xs i d h, map-append, is) in
-      let at : 73 * (i + 1) ≡ 73 * i + 73 = omega arith in
-      rw (next, at)
-      (printed_next (map (authority_line now) (take i xs)) line (73 * i) page₀ page (omega arith) b
-      (ap length e ∙ authority_73 cells c.1))
+  line_written h few room d cells line c e =
+      listed_next (authority_line now) 73 xs page₀ i page b h (omega arith) d line
+      (e ∙ ap (cell_line authority_widths) c.0) (ap length e ∙ authority_73 cells c.1)
 
 -- ---- the whole page
 
@@ -94,7 +88,7 @@ module _ (r : Register) (buffer page : List ℕ) (k : Kept r) (h : 2409 ≤ leng
       let is : lines ++ (last ∷ []) ≡ sheet_lines (board_of r) =
       ap (λ (t : List ℕ). lines ++ (t ∷ [])) (q ∙ ap (cell_line total_widths) c.0) in
       let at : 73 * live + 73 ≡ 73 * (live + 1) = omega arith in
-      let printed = printed_next lines last (73 * live) buffer page (omega (arith, page_room)) all
+      let printed = printed_next 73 lines last (73 * live) buffer page (omega (arith, page_room)) all
       (ap length q ∙ total_73 cells c.1) in (
         rw (← is) printed.size ∙ at,
         rw (← is, ← at) printed.bytes,

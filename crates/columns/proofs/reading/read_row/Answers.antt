@@ -2,6 +2,7 @@
 -- and then the row of the columns left. Assumes nothing.
 use Rattle.std.proofs.Common.{sym, ◌∙◌, arith}
 use lib.ListN.{length-replicate}
+use Rattle.columns.proofs.ReadingLaws.{read_most}
 use Rattle.columns.proofs.Rows.{more_or_fewer, none_yet, row_short, row_bad, row_next, row_whole, row_other}
 use Rattle.columns.proofs.reading.read_row.Goals as goal
 
@@ -20,12 +21,18 @@ pub returns-in_err-numbers : goal.returns-in_err-numbers
 returns-in_err-numbers g c =
     c.from_residual-in_err-numbers.ensures
     ∙ row_bad _ _ _ _ _ _ _ c.loop-place.invariant _ c.from.ensures
-    (omega arith) _ _ c.in_ok-column.ensures.cases c.in_err-numbers.ensures
+    (omega arith) _ _ c.in_ok-column.ensures.cases (rw c.from-in-loop-place.ensures at c.in_err-numbers.ensures)
+
+-- a number that is at most `most` has 16 bits
+pub overflow_cast-numbers : goal.overflow_cast-numbers
+overflow_cast-numbers g c =
+    let few = read_most _ _ _ (sym c.in_ok-numbers.ensures) in
+    omega (arith, few, c.from-in-loop-place.ensures, c.ranges.most)
 
 pub loop-place-preserved : goal.loop-place-preserved
 loop-place-preserved g c =
     row_next _ _ _ _ _ _ _ c.loop-place.invariant _ c.from.ensures
-    (omega arith) _ _ c.in_ok-column.ensures.cases _ c.in_ok-numbers.ensures
+    (omega arith) _ _ c.in_ok-column.ensures.cases _ (rw c.from-in-loop-place.ensures at c.in_ok-numbers.ensures)
 
 pub returns-then-is_line_feed : goal.returns-then-is_line_feed
 returns-then-is_line_feed g c =

@@ -7,7 +7,7 @@ use Rattle.std.proofs.lemmas.Slice.Zip.{Zip-more}
 use Rattle.std.proofs.lemmas.Iterator.{empty_from_Zip}
 use Rattle.columns.specs.Cells.{cell_line}
 use Rattle.columns.proofs.CellsLaws.{cells_lengths}
-use Rattle.sheet.proofs.PageLines.{Begun, begun, begun_room, begun_next, begun_end}
+use Rattle.sheet.proofs.LineCells.{Begun, begun, begun_room, begun_next, begun_end}
 use Rattle.sheet.proofs.page.fill_cells.Goals as goal
 use Rattle.sheet.proofs.page.fill_cells.Given.{Over}
 use Rattle.sheet.proofs.page.fill_cells.Goals.{In-Some}

@@ -1,7 +1,7 @@
 use Rattle.std.specs.Iterator.Adapters.{zip_first, zip_second}
 use Rattle.std.specs.Slice.Iter.{iter_rest}
 use Rattle.columns.specs.Cells.{cell_line}
-use Rattle.sheet.proofs.PageLines.{Begun}
+use Rattle.sheet.proofs.LineCells.{Begun}
 use Rattle.sheet.proofs.page.fill_cells.Given as goal
 
 abbrev pub invariant-loop-width : goal.invariant-loop-width

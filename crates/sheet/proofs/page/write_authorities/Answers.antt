@@ -3,8 +3,8 @@
 use Rattle.std.proofs.Common.{refl, sym, ◌∙◌, ◌+◌, ◌*◌, ◌≤◌, arith, length, rules}
 use Rattle.columns.proofs.Writing.{part_length}
 use Rattle.sheet.proofs.Fitting.{authority_73, now_small}
-use Rattle.sheet.proofs.PageLines.{printed_none}
-use Rattle.sheet.proofs.Pages.{few, starts_at, listed_room, listed_next}
+use Rattle.rules.proofs.PrintedLines.{printed_none}
+use Rattle.sheet.proofs.Pages.{few, starts_at, listed_room, line_written}
 use Rattle.sheet.proofs.page.write_authorities.Goals as goal
 use Rattle.sheet.proofs.page.write_authorities.Goals.{In-loop-i}
 
@@ -34,6 +34,6 @@ fill_cells-requires c =
 pub loop-i-preserved : goal.loop-i-preserved
 loop-i-preserved c =
     let xs = c.deref-authority-items in
-    listed_next xs.result.now c.minute_of-now.result c.loop-i.i _ _ c.loop-i.invariant c.loop-i-test.true
+    line_written xs.result.now c.minute_of-now.result c.loop-i.i _ _ c.loop-i.invariant c.loop-i-test.true
     (few c.args.register.now c.requires.0 _ xs.ensures.0) c.requires.1 _ _ _ c.authority_cells.ensures
     c.fill_cells.ensures

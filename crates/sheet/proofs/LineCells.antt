@@ -1,4 +1,4 @@
--- A page made line by line in a lent buffer. Assumes nothing.
+-- A line of the page made cell by cell in a lent buffer. Assumes nothing.
 use mathlib.Core.Path.{◌≡◌, refl, sym, ap, ap₂, ◌∙◌}
 use mathlib.Core.Bool.{Bool, true}
 use mathlib.Core.List.{List, [], ◌∷◌, ◌++◌, append_assoc, append-nil}
@@ -13,8 +13,6 @@ use Rattle.columns.specs.Cells.{cell, cell_line, cells_fit, Filled}
 use Rattle.columns.proofs.CellsLaws.{cell-length, cell_line-length, cells_next, cell_line_step}
 use Rattle.rules.specs.Sheet.{page_of}
 use Rattle.columns.specs.Line.{line_of}
-
--- ---- a line, cell by cell
 
 -- where cells stand in at bytes of the line: those still to come fit, there is room for them and for the line feed, and
 -- the whole line is what stands there and theirs
@@ -61,43 +59,3 @@ begun_end ws cells whole at line e b =
     let n : length line ≡ at + 1 = rw e at b.long in
     let l : length line ≤ suc at = omega arith in
     set_split line at 10 (omega arith) ∙ rw (drop_of_length-le line l) (sym (rw e at b.so_far))
-
--- ---- the page, line by line
-
--- one line more
-page_snoc : (lines : List (List ℕ)) (line : List ℕ) → page_of (lines ++ (line ∷ [])) ≡ page_of lines ++ line
-unfolding page_of
-page_snoc [] line = append-nil line
-page_snoc (l ∷ lines) line =
-    ap (λ (t : List ℕ). l ++ t) (page_snoc lines line) ∙ sym (append_assoc l (page_of lines) line)
-
--- after some lines, in at bytes: they stand at the front of the page, and later bytes are as they were
-pub record Printed (lines : List (List ℕ)) (at : ℕ) (page₀ page : List ℕ) : Type 0 where
-  pub size : length (page_of lines) ≡ at
-  pub long : length page ≡ length page₀
-  pub bytes : page ≡ page_of lines ++ drop at page₀
-
-pub printed_none : (page : List ℕ) → Printed [] 0 page page
-unfolding page_of
-printed_none page = record { size = refl; long = refl; bytes = refl }
-
--- one line more, filled into the 73 bytes from at
-pub printed_next : (lines : List (List ℕ)) (line : List ℕ) (at : ℕ) (page₀ page : List ℕ) → at + 73 ≤ length page₀
-    → Printed lines at page₀ page → length line ≡ 73
-    → Printed (lines ++ (line ∷ [])) (at + 73) page₀ (put_mid at (at + 73 - at) page line)
-printed_next lines line at page₀ page h b e =
-    let done = page_of lines in
-    let size : length (page_of (lines ++ (line ∷ []))) ≡ at + 73 =
-    ap length (page_snoc lines line) ∙ simp (length-append, b.size, e) in
-    let front : take at page ≡ done = ap (take at) b.bytes ∙ take_at done (drop at page₀) at b.size in
-    let rest : drop at page ≡ drop at page₀ = ap (drop at) b.bytes ∙ drop_at done (drop at page₀) at b.size in
-    let behind : drop (at + 73) page ≡ drop (at + 73) page₀ =
-    sym (drop-drop 73 at page) ∙ ap (drop 73) rest ∙ drop-drop 73 at page₀ in
-    let bytes : put_mid at (at + 73 - at) page line ≡ page_of (lines ++ (line ∷ [])) ++ drop (at + 73) page₀ =
-    ap₂ (λ (x y : List ℕ). x ++ (line ++ y)) front (Post-is at (at + 73) page (omega arith) ∙ behind)
-    ∙ rw (page_snoc lines line) (sym (append_assoc done line (drop (at + 73) page₀))) in
-    record {
-      size = size;
-      long = ap length bytes ∙ simp (length-append, length-drop, size) (omega arith);
-      bytes = bytes;
-    }

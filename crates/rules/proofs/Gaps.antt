@@ -1,0 +1,216 @@
+-- What is due for the gaps between worksites (02, order 9): when a list is refused, what is due by cases, the lines, and
+-- that the gaps and the worksites fill the stretch. Assumes nothing.
+use mathlib.Core.Path.{◌≡◌, refl, sym, ap, ◌∙◌}
+use mathlib.Core.Logic.{◌⊎◌, inl, inr, ⊎_elim}
+use mathlib.Core.Bool.{Bool, true, false, cond, not, ◌&&◌, false≢true}
+use mathlib.Core.List.{List, [], ◌∷◌, ◌++◌, map}
+use Prim.Native.Nat.{ℕ, zero, suc, ◌+◌, ◌-◌, ◌*◌, ◌^◌, ◌≤◌, ◌<◌}
+use native.Mathlib.Omega.{arith}
+use borrow.Author.Tests.{lt-ltb, le-ltb, le-leb, lt-leb, leb-true, eqb-true, ne_eqb, eq-eqb}
+use lib.Dec.{eqb, leb, ltb}
+use lib.ListN.{length, drop, get_or, length-append, length-map}
+use Rattle.std.specs.Prelude.{sum}
+use Rattle.std.specs.List.{All}
+use Rattle.std.proofs.lemmas.Bool.{and_from}
+use Rattle.std.proofs.lemmas.List.Elements.{All-nil, All-cons}
+use Rattle.std.proofs.lemmas.List.Sums.{sum_by-cons}
+use Rattle.lists.specs.Search.{any}
+use Rattle.lists.proofs.Tests.{and_l, and_r}
+use Rattle.columns.specs.Line.{line, all_fit, fit_of}
+use Rattle.columns.specs.Reading.{row_of}
+use Rattle.columns.proofs.Writing.{fits_below, line-length, total}
+use Rattle.columns.proofs.Rows.{at_most, read_line}
+use Rattle.sets.specs.Sets.{between}
+use Rattle.rules.specs.Refusals.{Refusal, ◌when◌, lowest}
+use Rattle.rules.specs.Sheet.{page_of}
+use Rattle.rules.specs.Worksites.{is_lpa_no, is_twa_no, is_stated, are_worksites, is_list, distances, gaps, due}
+use Rattle.rules.specs.Worksites.{due_in_lpa, due_in_twa, is_too_far, are_too_far, worksites_refusals, worksites_answer}
+use Rattle.rules.specs.Worksites.{gap_widths, gap_line, gap_lines, WorksitesPost}
+use Rattle.rules.proofs.Answers.{ascends, Lowest, lowest_is, NoneHolds, none_holds, is_zero, Refused, refused_by}
+use Rattle.rules.proofs.Answers.{is_refused}
+
+-- ---- the answer
+
+-- THEOREM: the conditions are listed in ascending order, so the first that holds is the lowest
+pub worksites_ascending : (kind stated : ℕ) (from to : List ℕ) (room : ℕ)
+    → ascends 27 0 (worksites_refusals kind stated from to room) ≡ true
+unfolding ascends worksites_refusals
+worksites_ascending kind stated from to room = refl
+
+module _ (kind stated : ℕ) (from to : List ℕ) (room : ℕ) where
+  abbrev answer : ℕ
+  answer = worksites_answer kind stated from to room
+
+  abbrev refusals : List Refusal
+  refusals = worksites_refusals kind stated from to room
+
+  lowest_one : Lowest refusals answer
+  unfolding worksites_answer
+  lowest_one = lowest_is 27 0 refusals (worksites_ascending kind stated from to room)
+
+  -- THEOREM: the answer is 0 exactly where no condition holds
+  pub worksites_none : (answer ≡ 0 → NoneHolds refusals) × (NoneHolds refusals → answer ≡ 0)
+  worksites_none = (none_holds lowest_one, is_zero lowest_one)
+
+  -- THEOREM: it is n exactly where condition n holds and none lower does
+  pub worksites_refused : (n : ℕ) → 0 < n → (answer ≡ n → Refused n refusals) × (Refused n refusals → answer ≡ n)
+  worksites_refused n p = ((λ e. refused_by lowest_one e p), is_refused lowest_one)
+
+-- ---- what is due, by cases
+
+-- THEOREM: of an LPA "under 500" it is what is stated, from 500 to 1000 midway (3), "above 1000" each end (4)
+pub due_of_lpa : (stated gap : ℕ)
+    → (gap < 500 → due 1 stated gap ≡ stated)
+    × (500 ≤ gap → gap ≤ 1000 → due 1 stated gap ≡ 3)
+    × (1000 < gap → due 1 stated gap ≡ 4)
+unfolding due due_in_lpa
+due_of_lpa stated gap = (
+  λ h. rw (lt-ltb gap 500 h),
+  λ h k. rw (le-ltb gap 500 h, le-leb gap 1000 k),
+  λ h. rw (le-ltb gap 500 (omega arith), lt-leb gap 1000 h),
+)
+
+-- THEOREM: of a TWA "under 1000" one worksite (1), from 1000 on several (5)
+pub due_of_twa : (stated gap : ℕ) → (gap < 1000 → due 3 stated gap ≡ 1) × (1000 ≤ gap → due 3 stated gap ≡ 5)
+unfolding due due_in_twa
+due_of_twa stated gap = (λ h. rw (lt-ltb gap 1000 h), λ h. rw (le-ltb gap 1000 h))
+
+-- what is due is one digit, or what is stated
+due_small : (kind stated gap : ℕ) → stated < 65536 → due kind stated gap < 65536
+unfolding due due_in_lpa due_in_twa
+due_small kind stated gap h = go (is_lpa_no kind) (ltb gap 500) (leb gap 1000) (ltb gap 1000)
+  where
+    go : (lpa near midway one : Bool) → cond lpa (cond near stated (cond midway 3 4)) (cond one 1 5) < 65536
+    go true true midway one = h
+    go true false true one = omega arith
+    go true false false one = omega arith
+    go false near midway true = omega arith
+    go false near midway false = omega arith
+
+-- ---- a line
+
+module _ (kind stated gap : ℕ) (s : stated < 65536) (g : gap ≤ 999999) where
+  abbrev numbers : List ℕ
+  numbers = gap ∷ due kind stated gap ∷ []
+
+  pub gap_fits : all_fit gap_widths numbers ≡ true
+  unfolding fit_of
+  gap_fits =
+      and_from _ _ (fits_below 8 gap (omega arith) (omega arith))
+      (and_from _ _
+      (fits_below 8 (due kind stated gap) (omega arith) (omega (arith, due_small kind stated gap s))) refl)
+
+  -- THEOREM: a line has 17 bytes
+  pub gap_17 : length (gap_line kind stated gap) ≡ 17
+  unfolding gap_line total
+  gap_17 = line-length gap_widths numbers gap_fits
+
+  -- THEOREM: it reads back as the gap and what is due
+  pub gap_read : row_of 99999999 gap_widths (gap_line kind stated gap) ≡ record { numbers = numbers; whole = true }
+  unfolding gap_line at_most
+  gap_read =
+      read_line 99999999 gap_widths numbers gap_fits
+      (and_from _ _ (le-leb gap 99999999 (omega arith))
+      (and_from _ _ (le-leb (due kind stated gap) 99999999 (omega (arith, due_small kind stated gap s))) refl))
+
+-- ---- worksites in their order
+
+-- the first of them, and those after it
+pub record FirstSite (end f t : ℕ) (from to : List ℕ) : Type 0 where
+  pub starts : end ≤ f
+  pub ends : f ≤ t
+  pub most : t ≤ 999999
+  pub rest : are_worksites t from to ≡ true
+
+first_site : (end f t : ℕ) (from to : List ℕ) → are_worksites end (f ∷ from) (t ∷ to) ≡ true
+    → FirstSite end f t from to
+unfolding are_worksites
+first_site end f t from to h =
+    let before = and_l (leb end f && leb f t && leb t 999999) (are_worksites t from to) h in
+    let ordered = and_l (leb end f && leb f t) (leb t 999999) before in
+    record {
+      starts = leb-true end f (and_l (leb end f) (leb f t) ordered);
+      ends = leb-true f t (and_r (leb end f) (leb f t) ordered);
+      most = leb-true t 999999 (and_r (leb end f && leb f t) (leb t 999999) before);
+      rest = and_r (leb end f && leb f t && leb t 999999) (are_worksites t from to) h;
+    }
+
+-- there are as many froms as tos
+pub sites_paired : (end : ℕ) (from to : List ℕ) → are_worksites end from to ≡ true → length from ≡ length to
+unfolding are_worksites
+sites_paired end [] [] h = refl
+sites_paired end [] (t ∷ to) h = absurd (false≢true h)
+sites_paired end (f ∷ from) [] h = absurd (false≢true h)
+sites_paired end (f ∷ from) (t ∷ to) h = ap suc (sites_paired t from to (first_site end f t from to h).rest)
+
+-- the gap before each of them, the first after `end`, is no longer than the metres go
+gaps_after : (end : ℕ) (from to : List ℕ) → are_worksites end from to ≡ true
+    → All (λ gap. gap ≤ 999999) (distances (end ∷ to) from)
+unfolding are_worksites distances
+gaps_after end [] to h = All-nil (λ gap. gap ≤ 999999)
+gaps_after end (f ∷ from) [] h = absurd (false≢true h)
+gaps_after end (f ∷ from) (t ∷ to) h =
+    let s = first_site end f t from to h in
+    All-cons (λ gap. gap ≤ 999999) (f - end) (distances (t ∷ to) from) (omega (arith, s.ends, s.most))
+    (gaps_after t from to s.rest)
+
+pub gaps_small : (end : ℕ) (from to : List ℕ) → are_worksites end from to ≡ true
+    → All (λ gap. gap ≤ 999999) (gaps from to)
+unfolding are_worksites distances
+gaps_small end [] [] h = All-nil (λ gap. gap ≤ 999999)
+gaps_small end [] (t ∷ to) h = absurd (false≢true h)
+gaps_small end (f ∷ from) [] h = absurd (false≢true h)
+gaps_small end (f ∷ from) (t ∷ to) h = gaps_after t from to (first_site end f t from to h).rest
+
+-- ---- the gaps and the worksites fill the stretch
+
+-- there is one line less than worksites
+gaps_count : (end : ℕ) (from to : List ℕ) → length from ≡ length to → length (distances (end ∷ to) from) ≡ length from
+unfolding distances
+gaps_count end [] to h = refl
+gaps_count end (f ∷ from) [] h = absurd (omega arith)
+gaps_count end (f ∷ from) (t ∷ to) h = ap suc (gaps_count t from to (omega arith))
+
+-- a list has 1 to 32 worksites
+pub list_within : (from to : List ℕ) → is_list from to ≡ true → (1 ≤ length from) × (length from ≤ 32)
+unfolding is_list
+list_within from to h =
+    let count = and_l (leb 1 (length from) && leb (length from) 32) (are_worksites 0 from to) h in (
+      leb-true 1 (length from) (and_l (leb 1 (length from)) (leb (length from) 32) count),
+      leb-true (length from) 32 (and_r (leb 1 (length from)) (leb (length from) 32) count),
+    )
+
+-- THEOREM: there is one gap, and so one line, less than worksites
+pub one_less : (from to : List ℕ) → is_list from to ≡ true → length (gaps from to) + 1 ≡ length from
+unfolding is_list distances
+one_less [] to h = absurd (false≢true h)
+one_less (f ∷ from) to h = go to (sites_paired 0 (f ∷ from) to (and_r _ _ h))
+  where
+    go : (to : List ℕ) → length (f ∷ from) ≡ length to → length (gaps (f ∷ from) to) + 1 ≡ length (f ∷ from)
+    go [] e = absurd (omega arith)
+    go (t ∷ to) e = omega (arith, gaps_count t from to (omega arith))
+
+-- the end of the last worksite, `end` where there is none
+unfoldable pub last_end : ℕ → List ℕ → ℕ
+last_end end [] = end
+last_end end (t ∷ to) = last_end t to
+
+filled : (end : ℕ) (from to : List ℕ) → are_worksites end from to ≡ true
+    → sum (distances (end ∷ to) from) + sum (distances from to) + end ≡ last_end end to
+unfolding are_worksites distances last_end
+filled end [] [] h = omega arith
+filled end [] (t ∷ to) h = absurd (false≢true h)
+filled end (f ∷ from) [] h = absurd (false≢true h)
+filled end (f ∷ from) (t ∷ to) h =
+    let s = first_site end f t from to h in
+    let before = sum_by-cons (λ x. x) (f - end) (distances (t ∷ to) from) in
+    let here = sum_by-cons (λ x. x) (t - f) (distances from to) in
+    omega (arith, s.starts, s.ends, filled t from to s.rest, before, here)
+
+-- THEOREM: the gaps and the lengths of the worksites add up to the way from the first's beginning to the last's end
+pub stretch_filled : (f t : ℕ) (from to : List ℕ) → is_list (f ∷ from) (t ∷ to) ≡ true
+    → sum (gaps (f ∷ from) (t ∷ to)) + sum (distances (f ∷ from) (t ∷ to)) ≡ last_end t to - f
+unfolding is_list distances
+stretch_filled f t from to h =
+    let s = first_site 0 f t from to (and_r _ _ h) in
+    omega (arith, s.ends, filled t from to s.rest, sum_by-cons (λ x. x) (t - f) (distances from to))

@@ -1,0 +1,4 @@
+-- The laws that this crate stands on: the steps of its loops, and its answers.
+mod SiteSteps
+mod GapSteps
+mod GapAnswers
