@@ -137,6 +137,8 @@ positive Word.Term e = omega arith
 positive Word.ShortPage e = omega arith
 positive Word.Distance e = omega arith
 positive Word.BlockOn e = omega arith
+positive Word.Worksites e = omega arith
+positive Word.TooFarApart e = omega arith
 
 pub taken_refused : (r : Register) (s : Seven) (refusal : Refused.Refusal) → Kept r
     → refusal_no refusal ≡ with_room (board_of r) s

@@ -11,6 +11,7 @@ use Rattle.std.proofs.lemmas.Bool.{cond_both}
 use Rattle.lists.proofs.Tests.{and_l, and_r}
 use Rattle.lists.proofs.Search.{Each}
 use Rattle.columns.proofs.Rows.{at_most}
+use Rattle.columns.specs.LinesIn.{unless_malformed, lines_in}
 use Rattle.rules.specs.declared.Seven.{Seven}
 use Rattle.rules.specs.Board.{Board}
 use Rattle.rules.specs.Refusals.{answer}
@@ -20,7 +21,7 @@ use Rattle.rules.proofs.Once.{once_after}
 use Rattle.rules.proofs.JournalLength.{nine, Small, line_55}
 use Rattle.std.specs.Prelude.{Option, Some, None}
 use Rattle.calls.specs.CallLine.{line_in}
-use Rattle.calls.specs.CallsIn.{unless_malformed, calls_in}
+use Rattle.calls.specs.CallsIn.{calls_in}
 use Rattle.calls.specs.Run.{journal, run_of}
 use Rattle.calls.proofs.CallLines.{numbers_of, call_line}
 use Rattle.calls.proofs.Parts.{line_on}
@@ -63,7 +64,7 @@ each_small (n ∷ ns) h =
     (omega arith, each_small ns (and_r (leb n 65535) (at_most 65535 ns) h))
 
 pub calls_small : (n : ℕ) (text : List ℕ) → Each SmallCall (calls_in n text)
-unfolding calls_in
+unfolding lines_in
 calls_small zero text = tt
 calls_small (suc n) text = go (line_in (take 43 text)) refl (calls_small n (drop 43 text))
   where

@@ -9,6 +9,7 @@ use mathlib.Core.List.{List, [], ◌∷◌, ◌++◌, map, append_assoc}
 use lib.ListN.{length, take, drop, length-drop}
 use lib.Seq.{take-append-le, drop-append-le}
 use lib.Dec.{eqb, eqb-zero-suc, eqb-suc-suc}
+use Rattle.columns.specs.LinesIn.{unless_malformed, lines_in}
 use Rattle.rules.specs.declared.Seven.{Seven}
 use Rattle.rules.specs.Board.{Board}
 use Rattle.rules.specs.Refusals.{answer}
@@ -16,7 +17,7 @@ use Rattle.rules.specs.Journal.{journal_line}
 use Rattle.rules.specs.Step.{Made, after, allotted, final}
 use Rattle.std.specs.Prelude.{Option, Some, None}
 use Rattle.calls.specs.CallLine.{line_in}
-use Rattle.calls.specs.CallsIn.{unless_malformed, calls_in}
+use Rattle.calls.specs.CallsIn.{calls_in}
 use Rattle.calls.specs.Run.{made, journal, Run, run_of, ◌then_run◌}
 
 -- ---- a run call by call
@@ -35,16 +36,16 @@ line_on b c = journal_line c (answer b c 55) (allotted b c 55)
 
 module _ (b : Board) (text : List ℕ) where
   pub run_none : run_of 0 b text ≡ going b [] 0
-  unfolding run_of calls_in journal final
+  unfolding run_of lines_in journal final
   run_none = refl
 
   pub run_malformed : (n : ℕ) → line_in (take 43 text) ≡ None → run_of (suc n) b text ≡ stopped_at b
-  unfolding run_of calls_in journal final
+  unfolding run_of lines_in journal final
   run_malformed n e = rw (e, eqb-zero-suc n)
 
   pub run_call : (n : ℕ) (c : Seven) → line_in (take 43 text) ≡ Some c
       → run_of (suc n) b text ≡ (going (after b c 55) (line_on b c) 1 then_run run_of n (after b c 55) (drop 43 text))
-  unfolding run_of calls_in journal final
+  unfolding run_of lines_in journal final
   run_call n c e =
       let rest = length (calls_in n (drop 43 text)) in
       let more : 1 + rest ≡ suc rest = omega arith in
@@ -105,7 +106,7 @@ run_parts (suc n) m b s t e =
 -- the calls of the whole: those of the first part and, where each of its lines is one, those of the second
 pub calls_parts : (n m : ℕ) (s t : List ℕ) → length s ≡ 43 * n
     → calls_in (n + m) (s ++ t) ≡ calls_in n s ++ cond (eqb (length (calls_in n s)) n) (calls_in m t) []
-unfolding calls_in
+unfolding lines_in
 calls_parts zero m [] t e = rw (zero-add m)
 calls_parts zero m (x ∷ s) t e = absurd (omega arith)
 calls_parts (suc n) m s t e =

@@ -22,7 +22,7 @@ use Rattle.rules.specs.declared.refusal.Refusal.TheVariants.{ShortLine, NoSuchCa
 use Rattle.rules.specs.declared.refusal.Refusal.TheVariants.{Officer, AlreadySo, Full, NoFacility, Unprotected}
 use Rattle.rules.specs.declared.refusal.Refusal.TheVariants.{Occupied, Overlap, Site, Assurance, StillNeeded, NoTrain}
 use Rattle.rules.specs.declared.refusal.Refusal.TheVariants.{Blocked, NotPiloted, Plan, Notice, Term, ShortPage}
-use Rattle.rules.specs.declared.refusal.Refusal.TheVariants.{Distance, BlockOn}
+use Rattle.rules.specs.declared.refusal.Refusal.TheVariants.{Distance, BlockOn, Worksites, TooFarApart}
 use Rattle.rules.specs.Answer.{refusal_no, answer_no, number_no, is_numbered}
 use Rattle.rules.specs.Board.{Board, board_of}
 use Rattle.rules.specs.Journal.{line_after}
@@ -114,7 +114,7 @@ refusals : List Refusal
 refusals =
     ShortLine ∷ NoSuchCall ∷ Field ∷ Clock ∷ NotLive ∷ Stage ∷ Officer ∷ AlreadySo ∷ Full ∷ NoFacility ∷ Unprotected
     ∷ Occupied ∷ Overlap ∷ Site ∷ Assurance ∷ StillNeeded ∷ NoTrain ∷ Blocked ∷ NotPiloted ∷ Plan ∷ Notice ∷ Term
-    ∷ ShortPage ∷ Distance ∷ BlockOn ∷ []
+    ∷ ShortPage ∷ Distance ∷ BlockOn ∷ Worksites ∷ TooFarApart ∷ []
 
 -- the refusals are numbered from k on
 numbered_from : ℕ → List Refusal → Bool

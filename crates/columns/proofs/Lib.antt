@@ -8,4 +8,5 @@ pub mod SameText
 pub mod ReadingLaws
 pub mod Rows
 pub mod Chunks
+pub mod LinesRead
 pub mod CellsLaws

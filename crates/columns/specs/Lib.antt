@@ -5,3 +5,4 @@ pub mod Steps
 pub mod Text
 pub mod Reading
 pub mod Cells
+pub mod LinesIn

@@ -10,6 +10,7 @@ use lib.ListN.{length, take, drop, length-append, length-drop}
 use borrow.Author.Tests.{ne_eqb, eq-eqb}
 use Rattle.std.specs.Prelude.{Option, Some, None}
 use Rattle.std.proofs.lemmas.List.{take_all}
+use Rattle.columns.specs.LinesIn.{lines_in}
 use Rattle.rules.specs.declared.Seven.{Seven}
 use Rattle.rules.specs.Board.{Board}
 use Rattle.rules.specs.Step.{final}
@@ -32,7 +33,7 @@ no_call text h = go (line_in (take 43 text)) refl
 
 -- to look for more calls than a text has lines finds no more of them
 calls_over : (n k : ℕ) (text : List ℕ) → length text < 43 * suc n → calls_in (n + k) text ≡ calls_in n text
-unfolding calls_in
+unfolding lines_in
 calls_over zero zero text h = refl
 calls_over zero (suc k) text h = rw (zero-add (suc k), no_call text (omega arith))
 calls_over (suc n) k text h =

@@ -5,5 +5,7 @@
 mod gaps;
 mod lines;
 mod sent;
+mod text;
 
 pub use lines::write_gaps;
+pub use text::{Sent, TEXT_SIZE, read_sent};

@@ -1,0 +1,84 @@
+// A text of worksites read: the kind and the officer's statement on its first line, then a worksite a line.
+ghost use Rattle.std.specs.Prelude.{◌≡◌, min};
+ghost use Rattle.worksites.specs.SentText.{pair_in, pairs_in, SentRead};
+
+use arrayvec::ArrayVec;
+use columns::read_column;
+
+// A line has two columns of 8 and a line feed.
+const LINE_SIZE: usize = 17;
+
+// The first line, and one worksite more than a list has: what stands behind it makes no difference.
+const MOST_LINES: usize = 1 + 32 + 1;
+
+// As much of a text as is read.
+pub const TEXT_SIZE: usize = MOST_LINES * LINE_SIZE;
+
+// What the officer sends.
+#[derive(Clone, Drop)]
+pub struct Sent {
+    pub kind: u16,
+    pub stated: u16,
+    pub from: ArrayVec<u32, 33>,
+    pub to: ArrayVec<u32, 33>,
+}
+
+// The two numbers on a line: a text of 17 bytes, and any other is malformed.
+fn read_pair(line: &[u8]) -> Option<(u32, u32)>
+    ensures { result ≡ pair_in line.now }
+{
+    if line.len() != LINE_SIZE || line[LINE_SIZE - 1] != b'\n' {
+        return None;
+    }
+    let first = read_column(&line[..8], 99_999_999)?;
+    let second = read_column(&line[8..16], 99_999_999)?;
+    Some((first, second))
+}
+
+// The numbers on the lines of a text, up to a malformed one.
+fn read_pairs(text: &[u8]) -> ArrayVec<(u32, u32), 34>
+    ensures { result.items ≡ pairs_in text.now }
+{
+    let mut pairs = ArrayVec::new();
+    for line in text.chunks_exact(LINE_SIZE).take(MOST_LINES) {
+        let Some(pair) = read_pair(line) else {
+            return pairs;
+        };
+        pairs.push(pair);
+    }
+    pairs
+}
+
+// A number as one of 16 bits: a greater one counts as the greatest.
+fn narrowed(n: u32) -> u16
+    ensures { result ≡ min n 65535 }
+{
+    // Kept: a cast, which the check proves to lose nothing.
+    n.min(65535) as u16
+}
+
+// The kind, the statement and the worksites of a text; or, where a line is malformed, its number: lines count from 1,
+// and a text with none has a malformed line 1.
+pub fn read_sent(text: &[u8]) -> Result<Sent, usize>
+    ensures { SentRead text.now result }
+{
+    let pairs = read_pairs(text);
+    let Some(((kind, stated), worksites)) = pairs.split_first() else {
+        return Err(1);
+    };
+    if LINE_SIZE * pairs.len() != text.len().min(TEXT_SIZE) {
+        return Err(pairs.len() + 1);
+    }
+    let mut from = ArrayVec::new();
+    let mut to = ArrayVec::new();
+    for (start, end) in worksites {
+        from.push(*start);
+        to.push(*end);
+    }
+    Ok(Sent {
+        kind: narrowed(*kind),
+        stated: narrowed(*stated),
+        from,
+        to,
+    })
+}
