@@ -1,11 +1,12 @@
-//! The track authority board, read from document 01 and orders 1 to 8 of
+//! The track authority board, read from document 01 and orders 1 to 9 of
 //! document 02, without a look at the definitions.
 //!
 //! A plain program: it reads the files `plan` and `calls` in the working
 //! folder and prints the journal on standard output; with the argument `sheet`
 //! it prints order 2's shift sheet instead, and with `held` the live
 //! authorities, the trains, the bookings and order 8's three sets that the
-//! register then holds, in its order.
+//! register then holds, in its order. With `worksites` it reads the file
+//! `worksites` alone and prints order 9's lines for the gaps between them.
 //! Quotation marks in the comments hold the papers' own words; what isn't
 //! marked as an order's is 01's. Each call is one function of the board; its
 //! conditions for refusal are tested in ascending order of their numbers,
@@ -61,15 +62,24 @@ pub const TOTAL_WIDTHS: [usize; TOTALS] = [9, 9];
 pub const SHEET_WIDTH: usize = 72;
 pub const SHEET_LINE: usize = SHEET_WIDTH + 1;
 pub const SHEET: usize = (MOST_LIVE + 1) * SHEET_LINE;
+/// Order 9: "up to 32 worksites as from and to metres (0 to 999,999)".
+pub const MOST_WORKSITES: usize = 32;
+pub const LAST_METRE: u32 = 999_999;
+/// Order 9: "one line a gap in 8-column numbers", "31 lines of 17 bytes"; the
+/// lines of the file `worksites` are of the same form.
+pub const GAP_COLUMNS: usize = 8;
+pub const GAP_LINE: usize = 2 * GAP_COLUMNS + 1;
+pub const GAPS: usize = (MOST_WORKSITES - 1) * GAP_LINE;
 
 // ---------------------------------------------------------------------------
 // Refusals
 // ---------------------------------------------------------------------------
 
-/// The refusal words. 1, "short line", is about the caller's buffer and
-/// cannot occur in this program; nor can 23, but the sheet states it.
+/// The refusal words. 1, "short line", and 23 are about the caller's buffer and
+/// cannot occur in this program, but the gaps state 1 and the sheet 23.
 #[derive(Clone, Copy, PartialEq, Eq, Debug)]
 pub enum Refusal {
+    ShortLine = 1,
     NoSuchCall = 2,
     Field = 3,
     Clock = 4,
@@ -98,6 +108,9 @@ pub enum Refusal {
     Distance = 24,
     /// Order 6 gives 25 no word.
     BlockOn = 25,
+    /// Order 9 gives 26 and 27 no word.
+    Worksites = 26,
+    TooFarApart = 27,
 }
 
 fn refuse_if(condition: bool, refusal: Refusal) -> Result<(), Refusal> {
@@ -1226,10 +1239,97 @@ impl Board {
 }
 
 // ---------------------------------------------------------------------------
+// Worksites inside an authority
+// ---------------------------------------------------------------------------
+
+/// Order 9: what "is due" for a gap, with its number on the line: "1 single or
+/// one worksite, 2 coordinated, 3 midway, 4 each end, 5 several".
+#[derive(Clone, Copy, PartialEq, Eq, Debug)]
+pub enum Due {
+    One = 1,
+    Coordinated = 2,
+    Midway = 3,
+    EachEnd = 4,
+    Several = 5,
+}
+
+/// Order 9: what the officer states is due for a near gap, "single or
+/// coordinated, as the officer states for the list (1 or 2; 0 for a TWA)"; of a
+/// TWA it's always "one worksite". None, which 26 is for, "when the kind is
+/// another, or the officer's statement isn't one of those for the kind", also
+/// where the list has no near gap.
+fn stated(kind: u16, statement: u16) -> Option<(Kind, Due)> {
+    match (Kind::of(kind)?, statement) {
+        (Kind::Lpa, 1) => Some((Kind::Lpa, Due::One)),
+        (Kind::Lpa, 2) => Some((Kind::Lpa, Due::Coordinated)),
+        (Kind::Twa, 0) => Some((Kind::Twa, Due::One)),
+        _ => None,
+    }
+}
+
+/// Order 9: whether the list isn't "empty, too long, out of range or out of that
+/// order"; 26 if it is. Worksites may touch and may have no length.
+fn worksites_right(from: &[u32], to: &[u32]) -> bool {
+    // "up to 32 worksites as from and to metres", so as many of the one as of
+    // the other
+    let length_right = (1..=MOST_WORKSITES).contains(&from.len()) && to.len() == from.len();
+    // "metres (0 to 999,999)"
+    let in_range = from.iter().chain(to).all(|&metre| metre <= LAST_METRE);
+    // "each from at most its to"
+    let each_right = from.iter().zip(to).all(|(from, to)| from <= to);
+    // "each start at or after the end before it"
+    let in_order = to.iter().zip(from.iter().skip(1)).all(|(end, start)| start >= end);
+    length_right && in_range && each_right && in_order
+}
+
+/// Order 9: what is due for one gap; none for "a TWA gap above 3500".
+fn due(kind: Kind, near: Due, gap: u32) -> Option<Due> {
+    match kind {
+        // "TWA: under 1000 one worksite; 1000 to 3500 several under one TWA."
+        Kind::Twa if gap < 1000 => Some(near),
+        Kind::Twa if gap <= 3500 => Some(Due::Several),
+        Kind::Twa => None,
+        // "LPA: under 500 single or coordinated", "500 to 1000 signals and marker
+        // midway; above 1000 protection at each end."
+        _ if gap < 500 => Some(near),
+        _ if gap <= 1000 => Some(Due::Midway),
+        _ => Some(Due::EachEnd),
+    }
+}
+
+/// Order 9: "officers send the kind and up to 32 worksites", here with the
+/// statement and as two lists, of which the same place is one worksite. Writes
+/// "one line a gap" into the lent buffer; "later bytes stay and the number of
+/// lines comes back"; "refusals write nothing".
+pub fn gaps(kind: u16, statement: u16, from: &[u32], to: &[u32], buffer: &mut [u8]) -> Result<usize, Refusal> {
+    // 1 "A shorter one gives 1 first"
+    refuse_if(buffer.len() < GAPS, Refusal::ShortLine)?;
+    // 26
+    let (kind, near) = stated(kind, statement).ok_or(Refusal::Worksites)?;
+    refuse_if(!worksites_right(from, to), Refusal::Worksites)?;
+    // "For each gap, next start minus last end, the board says what is due"; 27
+    // "when a TWA gap is above 3500, tested after 26"
+    let mut lines = Vec::with_capacity(MOST_WORKSITES);
+    for (end, start) in to.iter().zip(from.iter().skip(1)) {
+        let gap = start - end;
+        lines.push((gap, due(kind, near, gap).ok_or(Refusal::TooFarApart)?));
+    }
+
+    // "metres, and" what is due
+    for (&(gap, due), line) in lines.iter().zip(buffer.chunks_exact_mut(GAP_LINE)) {
+        write_cell(gap as i32, &mut line[..GAP_COLUMNS]);
+        write_cell(due as i32, &mut line[GAP_COLUMNS..2 * GAP_COLUMNS]);
+        line[2 * GAP_COLUMNS] = b'\n';
+    }
+    Ok(lines.len())
+}
+
+// ---------------------------------------------------------------------------
 // Reading and writing columns
 // ---------------------------------------------------------------------------
 
-/// A number "right-justified in 6 columns behind blanks, no leading zeros".
+/// A number "right-justified in 6 columns behind blanks, no leading zeros", or
+/// in order 9's 8 columns.
 pub fn read_number(columns: &[u8]) -> Option<u32> {
     let blanks = columns.iter().take_while(|&&byte| byte == b' ').count();
     let digits = &columns[blanks..];
@@ -1259,20 +1359,20 @@ pub fn write_number(number: u16, columns: &mut [u8]) {
     }
 }
 
-/// A line of N numbers in 6 columns each, then a line feed.
-fn read_line<const N: usize>(line: &[u8]) -> Option<[u32; N]> {
-    if line.len() != N * COLUMNS + 1 || line[N * COLUMNS] != b'\n' {
+/// A line of N numbers in WIDE columns each, then a line feed.
+fn read_line<const N: usize, const WIDE: usize>(line: &[u8]) -> Option<[u32; N]> {
+    if line.len() != N * WIDE + 1 || line[N * WIDE] != b'\n' {
         return None;
     }
     let mut numbers = [0; N];
-    for (number, columns) in numbers.iter_mut().zip(line.chunks_exact(COLUMNS)) {
+    for (number, columns) in numbers.iter_mut().zip(line.chunks_exact(WIDE)) {
         *number = read_number(columns)?;
     }
     Some(numbers)
 }
 
 fn read_plan_line(line: &[u8]) -> Option<[u32; 3]> {
-    read_line::<3>(line)
+    read_line::<3, COLUMNS>(line)
 }
 
 /// "below P or 99"
@@ -1290,7 +1390,7 @@ fn read_place(number: u32, portions: u16) -> Option<Place> {
 /// 65535" makes the line malformed.
 pub fn read_call_line(line: &[u8]) -> Option<[u16; 7]> {
     let mut numbers = [0; 7];
-    for (number, wide) in numbers.iter_mut().zip(read_line::<7>(line)?) {
+    for (number, wide) in numbers.iter_mut().zip(read_line::<7, COLUMNS>(line)?) {
         if wide > u32::from(u16::MAX) {
             return None;
         }
@@ -1337,7 +1437,7 @@ pub struct SheetLine {
 /// Order 2: a number "right-justified" behind blanks, the minus sign directly
 /// before the digits. The largest minutes in hand that a register can give are
 /// 14465534 and the least -14389918, which fill their 9 columns; no other number
-/// has more than 4 digits.
+/// has more than 4 digits. Order 9's metres have at most 6.
 fn write_cell(number: i32, columns: &mut [u8]) {
     columns.fill(b' ');
     let mut rest = number.unsigned_abs();
@@ -1370,7 +1470,7 @@ fn write_sheet_line(one: &SheetLine, line: &mut [u8]) {
 }
 
 // ---------------------------------------------------------------------------
-// The journal program, the sheet program and what the register holds
+// The journal program, the sheet program, what the register holds and worksites
 // ---------------------------------------------------------------------------
 
 /// Lines read and written at a time: some 350 kB in, 450 kB out.
@@ -1459,7 +1559,40 @@ pub fn run_held(opened: Result<Board, Refusal>, calls: &mut impl Read, output: &
     output.flush()
 }
 
-/// What the program prints.
+/// Order 9: reads the file `worksites`, the kind and the officer's statement and
+/// then a line a worksite, from and to, and prints the lines or the refusal's
+/// number. A malformed line is an error that names the line: then nothing is
+/// printed.
+pub fn run_worksites() -> io::Result<()> {
+    // One worksite more than 32 shows a list that is too long; what stands behind
+    // it is not looked at.
+    let mut input = [0; GAP_LINE * (1 + MOST_WORKSITES + 1)];
+    let length = fill(&mut File::open("worksites")?, &mut input)?;
+    let malformed = |line| io::Error::other(format!("line {line} of worksites is malformed"));
+    let mut numbers = Vec::new();
+    for (at, line) in input[..length].chunks(GAP_LINE).enumerate() {
+        numbers.push(read_line::<2, GAP_COLUMNS>(line).ok_or_else(|| malformed(at + 1))?);
+    }
+    // In an empty file it is line 1 that isn't there.
+    let ([kind, statement], worksites) = numbers.split_first().ok_or_else(|| malformed(1))?;
+    // A kind or a statement above 65535 counts as 65535.
+    let narrow = |number: u32| number.min(u32::from(u16::MAX)) as u16;
+    let (from, to): (Vec<u32>, Vec<u32>) = worksites.iter().map(|&[from, to]| (from, to)).unzip();
+
+    let mut output = io::stdout().lock();
+    let mut buffer = [0; GAPS];
+    match gaps(narrow(*kind), narrow(*statement), &from, &to, &mut buffer) {
+        Ok(lines) => output.write_all(&buffer[..lines * GAP_LINE])?,
+        Err(refusal) => {
+            let mut line = Vec::new();
+            write_line(&[refusal as u16], &mut line);
+            output.write_all(&line)?;
+        }
+    }
+    output.flush()
+}
+
+/// What the program prints of the board.
 #[derive(Clone, Copy, PartialEq, Eq, Debug)]
 pub enum Print {
     Journal,
@@ -1488,16 +1621,17 @@ pub fn run(print: Print) -> io::Result<()> {
 
 pub fn main() -> ExitCode {
     let arguments: Vec<String> = env::args().skip(1).collect();
-    let print = match arguments.as_slice() {
-        [] => Print::Journal,
-        [word] if word == "sheet" => Print::Sheet,
-        [word] if word == "held" => Print::Held,
+    let done = match arguments.as_slice() {
+        [] => run(Print::Journal),
+        [word] if word == "sheet" => run(Print::Sheet),
+        [word] if word == "held" => run(Print::Held),
+        [word] if word == "worksites" => run_worksites(),
         _ => {
-            eprintln!("usage: reference [sheet|held]");
+            eprintln!("usage: reference [sheet|held|worksites]");
             return ExitCode::FAILURE;
         }
     };
-    match run(print) {
+    match done {
         Ok(()) => ExitCode::SUCCESS,
         Err(error) => {
             eprintln!("reference: {error}");
