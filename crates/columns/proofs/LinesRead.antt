@@ -5,9 +5,11 @@ use mathlib.Core.List.{List, [], ◌∷◌, ◌++◌, append_assoc, append-nil}
 use Prim.Native.Nat.{ℕ, zero, suc, ◌+◌, ◌-◌, ◌*◌, ◌≤◌, ◌<◌}
 use native.Mathlib.Nat.{mul-add}
 use native.Mathlib.Omega.{arith}
-use lib.ListN.{length, take, drop, length-append}
+use mathlib.Core.Logic.{⊎_elim}
+use lib.ListN.{length, take, drop, length-append, length-take, length-drop}
 use lib.Seq.{drop-drop}
 use Rattle.std.specs.Prelude.{Option, Some, None}
+use Rattle.lists.proofs.Tests.{lt_or_le}
 use Rattle.columns.specs.LinesIn.{unless_malformed, lines_in}
 
 module _ {A : Type 0} (reading : List ℕ → Option A) (w : ℕ) where
@@ -61,3 +63,14 @@ module _ {A : Type 0} (reading : List ℕ → Option A) (w : ℕ) where
     lines_full h =
         let none : n - length found ≡ 0 = omega arith in
         sym (s.whole ∙ rw none (append-nil found))
+
+    -- fewer bytes are left than a line has, if any is asked for; of those the reading gives nothing
+    pub lines_over : 0 < w → ((line : List ℕ) → length line < w → reading line ≡ None)
+        → (length found < n → length text < w * length found + w) → found ≡ lines_in reading w n text
+    lines_over wide short h = ⊎_elim more lines_full (lt_or_le (length found) n)
+      where
+        more : length found < n → found ≡ lines_in reading w n text
+        more l =
+            let rest = drop (w * length found) text in
+            line_malformed (take w rest) refl
+            (short (take w rest) (omega (arith, h l, length-take w rest, length-drop (w * length found) text)))

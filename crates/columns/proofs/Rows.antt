@@ -1,6 +1,7 @@
 -- Laws of reading a row of columns, each for all numbers, widths and greatest numbers, and the steps of the loop that
 -- reads one. Assumes nothing.
 use mathlib.Core.Path.{◌≡◌, refl, sym, ap, ap₂, ◌∙◌}
+use mathlib.Core.Logic.{⊎_elim}
 use mathlib.Core.Bool.{Bool, true, false, cond, ◌&&◌, false≢true, and-true, and-false}
 use mathlib.Core.List.{List, [], ◌∷◌, ◌++◌, append_assoc, append-nil}
 use Prim.Native.Nat.{ℕ, suc, ◌+◌, ◌≤◌, ◌<◌}
@@ -8,10 +9,11 @@ use native.Mathlib.Omega.{arith}
 use native.Mathlib.Numerals.{add-one}
 use borrow.Author.Tests.{eq-eqb, ne_eqb, le-leb, lt-leb, leb-true}
 use lib.Dec.{eqb, leb}
-use lib.ListN.{length, take, drop, set, get_or, length-append, length-set, take-append-drop, drop_of_length-le}
+use lib.ListN.{length, take, drop, set, get_or, length-append, length-set, length-drop, take-append-drop}
+use lib.ListN.{drop_of_length-le}
 use lib.Seq.{take_at, drop_at, drop-cons, take-suc-set, length-take-le}
 use Rattle.std.proofs.lemmas.Bool.{and_from}
-use Rattle.lists.proofs.Tests.{and_l, and_r}
+use Rattle.lists.proofs.Tests.{lt_or_le, and_l, and_r}
 use Rattle.std.specs.Prelude.{Option, Some, None}
 use Rattle.std.specs.List.{IsSplitAt}
 use Rattle.std.proofs.lemmas.List.{take_all}
@@ -20,7 +22,7 @@ use Rattle.columns.specs.Line.{line, all_fit, fit_of, line_of}
 use Rattle.columns.specs.Reading.{same_text, read_column, first_column, Row, with_column, row_of, row_in, numbers_in}
 use Rattle.columns.proofs.Scan.{unread}
 use Rattle.columns.proofs.SameText.{same_eq}
-use Rattle.columns.proofs.Writing.{column-length}
+use Rattle.columns.proofs.Writing.{column-length, total}
 use Rattle.columns.proofs.ReadingLaws.{read_column_lem, column_read, read_most}
 
 -- no number is above `most`
@@ -99,6 +101,22 @@ module _ (most w : ℕ) (s : List ℕ) where
   pub first_part : w ≤ length s → first_column most w s ≡ read_column most (take w s)
   unfolding first_column
   first_part h = rw (le-leb w (length s) h)
+
+-- a whole row has the bytes of its columns, and the line feed
+pub row_length : (most : ℕ) (ws s : List ℕ) → (row_of most ws s).whole ≡ true → length s ≡ total ws + 1
+unfolding row_of total
+row_length most [] s e = ap length (same_eq s (10 ∷ []) e)
+row_length most (w ∷ ws) s e = go (first_column most w s) refl e (row_length most ws (drop w s))
+  where
+    row : Row
+    row = row_of most ws (drop w s)
+
+    go : (r : Option ℕ) → first_column most w s ≡ r → (with_column r row).whole ≡ true
+        → (row.whole ≡ true → length (drop w s) ≡ total ws + 1) → length s ≡ w + total ws + 1
+    go (Some n) p q ih =
+        ⊎_elim (λ h. unread (sym (first_short most w s h) ∙ p))
+        (λ h. omega (arith, length-drop w s, ih q)) (lt_or_le (length s) w)
+    go None p q ih = absurd (false≢true q)
 
 -- a text is the line feed where its only byte is
 pub end_one : (s : List ℕ) → length s ≡ 1 → same_text s (10 ∷ []) ≡ eqb (get_or s 0 0) 10

@@ -7,5 +7,5 @@ mod reading;
 mod write;
 
 pub use cells::{Cell, difference, fill_cell};
-pub use reading::{read_column, read_row};
+pub use reading::{is_line_feed, read_column, read_row};
 pub use write::write_line;

@@ -46,7 +46,7 @@ pub fn read_column(text: &[u8], most: u32) -> Option<u32>
 
 // The text is a line feed and no more.
 #[tactic(auto, using(crate::proofs::Rows::end_one, crate::proofs::Rows::end_other))]
-fn is_line_feed(text: &[u8]) -> bool
+pub fn is_line_feed(text: &[u8]) -> bool
     ensures { result ≡ same_text text.now (10 ∷ []) }
 {
     text.len() == 1 && text[0] == b'\n'

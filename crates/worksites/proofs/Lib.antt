@@ -2,3 +2,5 @@
 mod SiteSteps
 mod GapSteps
 mod GapAnswers
+mod PairLines
+mod SentTexts

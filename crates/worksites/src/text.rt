@@ -1,9 +1,9 @@
 // A text of worksites read: the kind and the officer's statement on its first line, then a worksite a line.
-ghost use Rattle.std.specs.Prelude.{◌≡◌, min};
+ghost use Rattle.std.specs.Prelude.{◌≡◌, ◌≤◌, min, map, length};
 ghost use Rattle.worksites.specs.SentText.{pair_in, pairs_in, SentRead};
 
 use arrayvec::ArrayVec;
-use columns::read_column;
+use columns::{is_line_feed, read_column};
 
 // A line has two columns of 8 and a line feed.
 const LINE_SIZE: usize = 17;
@@ -27,11 +27,13 @@ pub struct Sent {
 fn read_pair(line: &[u8]) -> Option<(u32, u32)>
     ensures { result ≡ pair_in line.now }
 {
-    if line.len() != LINE_SIZE || line[LINE_SIZE - 1] != b'\n' {
+    let (first, rest) = line.split_at_checked(8)?;
+    let (second, end) = rest.split_at_checked(8)?;
+    if !is_line_feed(end) {
         return None;
     }
-    let first = read_column(&line[..8], 99_999_999)?;
-    let second = read_column(&line[8..16], 99_999_999)?;
+    let first = read_column(first, 99_999_999)?;
+    let second = read_column(second, 99_999_999)?;
     Some((first, second))
 }
 
@@ -57,6 +59,21 @@ fn narrowed(n: u32) -> u16
     n.min(65535) as u16
 }
 
+// The worksites on the lines behind the first: their froms and their tos.
+fn worksites_on(pairs: &[(u32, u32)]) -> (ArrayVec<u32, 33>, ArrayVec<u32, 33>)
+    requires { length pairs.now ≤ 33 }
+    ensures from { result.0.items ≡ map (λ p. p.0) pairs.now }
+    ensures to { result.1.items ≡ map (λ p. p.1) pairs.now }
+{
+    let mut from = ArrayVec::new();
+    let mut to = ArrayVec::new();
+    for (start, end) in pairs {
+        from.push(*start);
+        to.push(*end);
+    }
+    (from, to)
+}
+
 // The kind, the statement and the worksites of a text; or, where a line is malformed, its number: lines count from 1,
 // and a text with none has a malformed line 1.
 pub fn read_sent(text: &[u8]) -> Result<Sent, usize>
@@ -69,12 +86,7 @@ pub fn read_sent(text: &[u8]) -> Result<Sent, usize>
     if LINE_SIZE * pairs.len() != text.len().min(TEXT_SIZE) {
         return Err(pairs.len() + 1);
     }
-    let mut from = ArrayVec::new();
-    let mut to = ArrayVec::new();
-    for (start, end) in worksites {
-        from.push(*start);
-        to.push(*end);
-    }
+    let (from, to) = worksites_on(worksites);
     Ok(Sent {
         kind: narrowed(*kind),
         stated: narrowed(*stated),
