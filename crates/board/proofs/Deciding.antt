@@ -14,7 +14,6 @@ use Rattle.lists.proofs.Search.{Each, each_at}
 use Rattle.rules.specs.declared.Seven.{Seven}
 use Rattle.rules.specs.declared.Call.{Call}
 use Rattle.rules.specs.declared.refusal.Refusal as Refused
-use Rattle.rules.specs.declared.refusal.Refusal.TheVariants as Word
 use Rattle.rules.specs.declared.refusal.Refusal.TheVariants.{NoSuchCall, Field}
 use Rattle.rules.specs.declared.AuthorityNo.{AuthorityNo}
 use Rattle.rules.specs.declared.Call.TheVariants.{Request, Withdraw, Agree, Block, Unblock, Grant, Clear, Reoccupy}
@@ -29,7 +28,7 @@ use Rattle.rules.specs.Answer.{refusal_no, answer_no, number_no, is_numbered}
 use Rattle.rules.specs.Step.{Kept, Bounds, Once, Starts, after, allotted}
 use Rattle.rules.specs.Stored.{Stored, SortsApart, changes_sets}
 use Rattle.rules.proofs.Accepted.{Ranges, in_ranges_lem, Accepted, accepted as allowed}
-use Rattle.rules.proofs.Answers.{refused_same, refused_none}
+use Rattle.rules.proofs.Answers.{refused_same, refused_none, positive}
 use Rattle.rules.proofs.Once.{once_after}
 use Rattle.rules.proofs.Safety.{gates_stay}
 use Rattle.rules.proofs.SetsStay.{sets_stay, sets_stamped, granted_beside, fulfilled_beside, continued_beside}
@@ -109,36 +108,6 @@ pub allowed_one : {b : Board} {s : Seven} {d : Result Call Refused.Refusal} {c :
 allowed_one k is l free = record { answered = free ∙ own_answer k is l; named = call_named k is; free = sym free }
 
 -- ---- what a call with room for its line leaves
-
--- no refusal has the number 0
-pub positive : (refusal : Refused.Refusal) → refusal_no refusal ≡ 0 → ⊥
-positive Word.ShortLine e = omega arith
-positive Word.NoSuchCall e = omega arith
-positive Word.Field e = omega arith
-positive Word.Clock e = omega arith
-positive Word.NotLive e = omega arith
-positive Word.Stage e = omega arith
-positive Word.Officer e = omega arith
-positive Word.AlreadySo e = omega arith
-positive Word.Full e = omega arith
-positive Word.NoFacility e = omega arith
-positive Word.Unprotected e = omega arith
-positive Word.Occupied e = omega arith
-positive Word.Overlap e = omega arith
-positive Word.Site e = omega arith
-positive Word.Assurance e = omega arith
-positive Word.StillNeeded e = omega arith
-positive Word.NoTrain e = omega arith
-positive Word.Blocked e = omega arith
-positive Word.NotPiloted e = omega arith
-positive Word.Plan e = omega arith
-positive Word.Notice e = omega arith
-positive Word.Term e = omega arith
-positive Word.ShortPage e = omega arith
-positive Word.Distance e = omega arith
-positive Word.BlockOn e = omega arith
-positive Word.Worksites e = omega arith
-positive Word.TooFarApart e = omega arith
 
 pub taken_refused : (r : Register) (s : Seven) (refusal : Refused.Refusal) → Kept r
     → refusal_no refusal ≡ with_room (board_of r) s

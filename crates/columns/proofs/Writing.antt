@@ -3,7 +3,7 @@
 use mathlib.Core.Path.{◌≡◌, refl, sym, ap, ap₂, ◌∙◌}
 use mathlib.Core.Logic.{inl, inr}
 use mathlib.Core.Bool.{Bool, true, false≢true}
-use mathlib.Core.List.{List, [], ◌∷◌, ◌++◌, append_assoc}
+use mathlib.Core.List.{List, [], ◌∷◌, ◌++◌, append_assoc, append-nil}
 use Prim.Native.Nat.{ℕ, zero, suc, ◌+◌, ◌-◌, ◌*◌, ◌/◌, ◌%◌, ◌^◌, ◌≤◌, ◌<◌}
 use native.Mathlib.Omega.{arith}
 use native.Mathlib.Nat.{pow-suc, pow-le-pow_right}
@@ -11,11 +11,12 @@ use native.Mathlib.Numerals.{add-one}
 use borrow.Author.Tests.{leb-true, le-leb, ne_eqb}
 use lib.Dec.{leb}
 use lib.ListN.{length, take, drop, replicate, length-append, length-replicate, length-drop, replicate-append-replicate}
+use lib.ListN.{drop_of_length-le}
 use lib.Seq.{length-take-le, take_at}
 use borrow.Rule.Slice.PartMut.{mid_of, put_mid, mid_len, Post-is}
 use Rattle.lists.proofs.Tests.{lt_or_le, and_l, and_r}
 use Rattle.columns.specs.Column.{digits, column, fits, ColumnFilled}
-use Rattle.columns.specs.Line.{line, all_fit, writable, with_line, fit_of, line_of}
+use Rattle.columns.specs.Line.{line, all_fit, writable, with_line, Written, fit_of, line_of}
 use Rattle.columns.specs.Steps.{mark}
 use Rattle.columns.proofs.Digits.{digits_one, digits_more, count_one, count_more}
 
@@ -179,3 +180,12 @@ pub with_line-length : (ws ns buffer : List ℕ) → writable (length buffer) ws
 unfolding with_line
 with_line-length ws ns buffer e =
     simp (length-append, length-drop) (omega (arith, (writable_known (length buffer) ws ns e).1))
+
+-- a buffer as long as the line is the line
+pub line_fills : (ws ns before after : List ℕ) (answer : Bool) → Written ws ns before after answer
+    → all_fit ws ns ≡ true → length before ≡ total ws + 1 → after ≡ line ws ns
+unfolding with_line
+line_fills ws ns before after answer w fit size =
+    let can = writable-room (length before) ws ns fit (omega arith) in
+    w.bytes ∙ rw (can, line-length ws ns fit, drop_of_length-le before {i = total ws + 1} (omega arith))
+    (append-nil (line ws ns))

@@ -3,3 +3,4 @@ mod WholeRuns
 mod FileRuns
 mod NumberLines
 mod Folders
+mod GapTexts

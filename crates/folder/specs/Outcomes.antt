@@ -1,5 +1,5 @@
--- What opening a plan, making all calls of a file and printing the sheet come to: the boards, and what is written.
--- Assumes nothing.
+-- What opening a plan, making all calls of a file, printing the sheet and printing what is due for worksites come to:
+-- the boards, and what is written. Assumes nothing.
 use Rattle.std.specs.Prelude.{ℕ, ◌+◌, ◌*◌, ◌/◌, ◌^◌, ◌≤◌, ◌≡◌, ◌≢◌, Bool, true, false, cond, List, [], ◌∷◌, length}
 use Rattle.std.specs.Prelude.{eqb, ⊤, Option, Some, None, Result, Ok, Err}
 use Rattle.std.specs.Io.KnownBytes.{Keeps, Appends}
@@ -10,13 +10,15 @@ use Rattle.rules.specs.Plan.{open_board, open_answer}
 use Rattle.rules.specs.Sheet.{sheet}
 use Rattle.calls.specs.Run.{Run, run_of}
 use Rattle.folder.specs.declared.failure.Failure.{Failure}
-use Rattle.folder.specs.declared.failure.Failure.TheVariants.{File, Malformed, Endless}
+use Rattle.folder.specs.declared.failure.Failure.TheVariants.{File, Malformed, Endless, MalformedWorksites}
+use Rattle.worksites.specs.SentText.{is_malformed, malformed_line, gaps_printed}
 
 -- a file could not be opened, read or written
 abbrev pub IsFile : Failure → Type 0
 IsFile (File name error) = ⊤
 IsFile (Malformed name n) = ⊥
 IsFile (Endless name) = ⊥
+IsFile (MalformedWorksites name n) = ⊥
 
 -- ---- the calls of a text, to its end
 
@@ -58,6 +60,7 @@ RanAll b had old new (Err (Malformed name n)) =
     (text : List ℕ) × Has had text × RanToLine b text n × Appends old new (whole_run b text).text
 RanAll b had old new (Err (File name error)) = ⊤
 RanAll b had old new (Err (Endless name)) = IsEndless had
+RanAll b had old new (Err (MalformedWorksites name n)) = ⊥
 
 -- ---- a plan
 
@@ -81,6 +84,7 @@ PageAfter b had old new (Err (Malformed name n)) =
     (text : List ℕ) × Has had text × RanToLine b text n × Keeps old new
 PageAfter b had old new (Err (File name error)) = ⊤
 PageAfter b had old new (Err (Endless name)) = IsEndless had
+PageAfter b had old new (Err (MalformedWorksites name n)) = ⊥
 
 -- ---- a working folder
 
@@ -102,3 +106,19 @@ journal_of b text = (whole_run b text).text
 
 abbrev pub sheet_of : Board → List ℕ → List ℕ
 sheet_of b text = sheet (whole_run b text).board
+
+-- ---- worksites (02, order 9)
+
+-- what printing what is due for the worksites of a text comes to: the lines of the gaps are written, or the answer; at
+-- a malformed line nothing is written. Nothing is claimed where writing failed.
+abbrev pub GapsAfter : {A : Type 0} → List ℕ → Option (List ℕ) → Option (List ℕ) → Result A Failure → Type 0
+GapsAfter text old new (Ok done) = (is_malformed text ≡ false) × Appends old new (gaps_printed text)
+GapsAfter text old new (Err (MalformedWorksites name n)) =
+    (is_malformed text ≡ true) × (n ≡ malformed_line text) × Keeps old new
+GapsAfter text old new (Err (File name error)) = ⊤
+GapsAfter text old new (Err (Malformed name n)) = ⊥
+GapsAfter text old new (Err (Endless name)) = ⊥
+
+-- this is written for some text with no malformed line, since it is not known what a file holds
+abbrev pub GapsPrinted : Option (List ℕ) → Option (List ℕ) → Type 0
+GapsPrinted old new = (text : List ℕ) × (is_malformed text ≡ false) × Appends old new (gaps_printed text)

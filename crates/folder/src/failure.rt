@@ -16,6 +16,8 @@ pub enum Failure<'a> {
     Malformed { name: &'a [u8], line: u64 },
     // The calls, the file of that name, went on and on. No file is so long.
     Endless { name: &'a [u8] },
+    // A line of the worksites, the file of that name, is malformed; lines count from 1.
+    MalformedWorksites { name: &'a [u8], line: u64 },
 }
 
 // The name of a file, as it is said.
@@ -47,6 +49,9 @@ impl fmt::Display for Failure<'_> {
                 )
             }
             Failure::Endless { name } => write!(f, "{}: the file has no end", Name(name)),
+            Failure::MalformedWorksites { name, line } => {
+                write!(f, "{}: line {line} is malformed, and no gap is looked at", Name(name))
+            }
         }
     }
 }

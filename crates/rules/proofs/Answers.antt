@@ -18,6 +18,9 @@ use Rattle.rules.specs.declared.Seven.{Seven}
 use Rattle.rules.specs.declared.Call.{Call}
 use Rattle.rules.specs.declared.Call.TheVariants.{Request, Withdraw, Agree, Block, Unblock, Grant, Clear, Reoccupy}
 use Rattle.rules.specs.declared.Call.TheVariants.{HandOver, Fulfil, Continue, Move, Passed, Term, Join, BookOut, BookIn}
+use Rattle.rules.specs.declared.refusal.Refusal as Words
+use Rattle.rules.specs.declared.refusal.Refusal.TheVariants as Word
+use Rattle.rules.specs.Answer.{refusal_no}
 use Rattle.rules.specs.Board.{Board}
 use Rattle.rules.specs.Call.{named}
 use Rattle.rules.specs.Refusals.{Refusal, lowest, own, conditions, answer}
@@ -203,6 +206,38 @@ pub at_none : (n : ℕ) (rs : List Refusal) → NoneHolds rs → condition_at n 
 unfolding condition_at
 at_none n [] h = refl
 at_none n (r ∷ rs) h = at_step n r rs (h r (Memᴰ.head refl)) (at_none n rs (λ q m. h q (Memᴰ.tail m))) (eqb r.number n)
+
+-- ---- the numbers of the refusals
+
+-- no refusal has the number 0
+pub positive : (refusal : Words.Refusal) → refusal_no refusal ≡ 0 → ⊥
+positive Word.ShortLine e = omega arith
+positive Word.NoSuchCall e = omega arith
+positive Word.Field e = omega arith
+positive Word.Clock e = omega arith
+positive Word.NotLive e = omega arith
+positive Word.Stage e = omega arith
+positive Word.Officer e = omega arith
+positive Word.AlreadySo e = omega arith
+positive Word.Full e = omega arith
+positive Word.NoFacility e = omega arith
+positive Word.Unprotected e = omega arith
+positive Word.Occupied e = omega arith
+positive Word.Overlap e = omega arith
+positive Word.Site e = omega arith
+positive Word.Assurance e = omega arith
+positive Word.StillNeeded e = omega arith
+positive Word.NoTrain e = omega arith
+positive Word.Blocked e = omega arith
+positive Word.NotPiloted e = omega arith
+positive Word.Plan e = omega arith
+positive Word.Notice e = omega arith
+positive Word.Term e = omega arith
+positive Word.ShortPage e = omega arith
+positive Word.Distance e = omega arith
+positive Word.BlockOn e = omega arith
+positive Word.Worksites e = omega arith
+positive Word.TooFarApart e = omega arith
 
 -- ---- no answer is above the greatest refusal
 

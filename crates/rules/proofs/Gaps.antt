@@ -3,16 +3,18 @@
 use mathlib.Core.Path.{◌≡◌, refl, sym, ap, ◌∙◌}
 use mathlib.Core.Logic.{◌⊎◌, inl, inr, ⊎_elim}
 use mathlib.Core.Bool.{Bool, true, false, cond, not, ◌&&◌, false≢true}
+use mathlib.Core.List.Memᴰ
 use mathlib.Core.List.{List, [], ◌∷◌, ◌++◌, map}
 use Prim.Native.Nat.{ℕ, zero, suc, ◌+◌, ◌-◌, ◌*◌, ◌^◌, ◌≤◌, ◌<◌}
 use native.Mathlib.Omega.{arith}
-use borrow.Author.Tests.{lt-ltb, le-ltb, le-leb, lt-leb, leb-true, eqb-true, ne_eqb, eq-eqb}
+use borrow.Author.Tests.{lt-ltb, le-ltb, le-leb, lt-leb, leb-true, ltb-false, ne_eqb}
 use lib.Dec.{eqb, leb, ltb}
-use lib.ListN.{length, drop, get_or, length-append, length-map}
+use lib.ListN.{length, take, drop, get_or, length-append}
+use lib.Seq.{take_at}
 use Rattle.std.specs.Prelude.{sum}
 use Rattle.std.specs.List.{All}
-use Rattle.std.proofs.lemmas.Bool.{and_from}
-use Rattle.std.proofs.lemmas.List.Elements.{All-nil, All-cons}
+use Rattle.std.proofs.lemmas.Bool.{not-false, and_from}
+use Rattle.std.proofs.lemmas.List.Elements.{All-nil, All-cons, All-head, All-tail}
 use Rattle.std.proofs.lemmas.List.Sums.{sum_by-cons}
 use Rattle.lists.specs.Search.{any}
 use Rattle.lists.proofs.Tests.{and_l, and_r}
@@ -55,6 +57,17 @@ module _ (kind stated : ℕ) (from to : List ℕ) (room : ℕ) where
   -- THEOREM: it is n exactly where condition n holds and none lower does
   pub worksites_refused : (n : ℕ) → 0 < n → (answer ≡ n → Refused n refusals) × (Refused n refusals → answer ≡ n)
   worksites_refused n p = ((λ e. refused_by lowest_one e p), is_refused lowest_one)
+
+  -- what an accepted list is: there is room, and it is a list for the kind, with no gap too far
+  pub accepted_list : answer ≡ 0
+      → (527 ≤ room) × ((is_stated kind stated && is_list from to) ≡ true) × (are_too_far kind from to ≡ false)
+  unfolding worksites_refusals
+  accepted_list e =
+      let none = worksites_none.0 e in (
+        ltb-false room 527 (none _ (Memᴰ.head refl)),
+        not-false _ (none _ (Memᴰ.tail (Memᴰ.head refl))),
+        none _ (Memᴰ.tail (Memᴰ.tail (Memᴰ.head refl))),
+      )
 
 -- ---- what is due, by cases
 
@@ -171,20 +184,25 @@ gaps_count end [] to h = refl
 gaps_count end (f ∷ from) [] h = absurd (omega arith)
 gaps_count end (f ∷ from) (t ∷ to) h = ap suc (gaps_count t from to (omega arith))
 
--- a list has 1 to 32 worksites
-pub list_within : (from to : List ℕ) → is_list from to ≡ true → (1 ≤ length from) × (length from ≤ 32)
-unfolding is_list
-list_within from to h =
-    let count = and_l (leb 1 (length from) && leb (length from) 32) (are_worksites 0 from to) h in (
-      leb-true 1 (length from) (and_l (leb 1 (length from)) (leb (length from) 32) count),
-      leb-true (length from) 32 (and_r (leb 1 (length from)) (leb (length from) 32) count),
-    )
+-- a list has 1 to 32 worksites, in their order
+module _ (from to : List ℕ) (h : is_list from to ≡ true) where
+  pub list_within : (1 ≤ length from) × (length from ≤ 32)
+  unfolding is_list
+  list_within =
+      let count = and_l (leb 1 (length from) && leb (length from) 32) (are_worksites 0 from to) h in (
+        leb-true 1 (length from) (and_l (leb 1 (length from)) (leb (length from) 32) count),
+        leb-true (length from) 32 (and_r (leb 1 (length from)) (leb (length from) 32) count),
+      )
+
+  pub list_ordered : are_worksites 0 from to ≡ true
+  unfolding is_list
+  list_ordered = and_r (between 1 32 (length from)) (are_worksites 0 from to) h
 
 -- THEOREM: there is one gap, and so one line, less than worksites
 pub one_less : (from to : List ℕ) → is_list from to ≡ true → length (gaps from to) + 1 ≡ length from
-unfolding is_list distances
-one_less [] to h = absurd (false≢true h)
-one_less (f ∷ from) to h = go to (sites_paired 0 (f ∷ from) to (and_r _ _ h))
+unfolding distances
+one_less [] to h = absurd (omega (arith, list_within [] to h))
+one_less (f ∷ from) to h = go to (sites_paired 0 (f ∷ from) to (list_ordered (f ∷ from) to h))
   where
     go : (to : List ℕ) → length (f ∷ from) ≡ length to → length (gaps (f ∷ from) to) + 1 ≡ length (f ∷ from)
     go [] e = absurd (omega arith)
@@ -210,7 +228,53 @@ filled end (f ∷ from) (t ∷ to) h =
 -- THEOREM: the gaps and the lengths of the worksites add up to the way from the first's beginning to the last's end
 pub stretch_filled : (f t : ℕ) (from to : List ℕ) → is_list (f ∷ from) (t ∷ to) ≡ true
     → sum (gaps (f ∷ from) (t ∷ to)) + sum (distances (f ∷ from) (t ∷ to)) ≡ last_end t to - f
-unfolding is_list distances
+unfolding distances
 stretch_filled f t from to h =
-    let s = first_site 0 f t from to (and_r _ _ h) in
+    let s = first_site 0 f t from to (list_ordered (f ∷ from) (t ∷ to) h) in
     omega (arith, s.ends, filled t from to s.rest, sum_by-cons (λ x. x) (t - f) (distances from to))
+
+-- ---- the lines
+
+-- each line has 17 bytes
+pub gap_lines-length : (kind stated : ℕ) (gs : List ℕ) → stated < 65536 → All (λ gap. gap ≤ 999999) gs
+    → length (gap_lines kind stated gs) ≡ 17 * length gs
+unfolding gap_lines page_of
+gap_lines-length kind stated [] s a = refl
+gap_lines-length kind stated (gap ∷ gs) s a =
+    let small = All-head (λ gap. gap ≤ 999999) gap gs a in
+    let rest = gap_lines-length kind stated gs s (All-tail (λ gap. gap ≤ 999999) gap gs a) in
+    length-append (gap_line kind stated gap) (gap_lines kind stated gs)
+    ∙ omega (arith, gap_17 kind stated gap s small, rest)
+
+-- a list for a kind has one line at least less than 32, and a gap of it no more metres than 999,999
+module _ (kind stated : ℕ) (from to : List ℕ) (sent : (is_stated kind stated && is_list from to) ≡ true) where
+  list : is_list from to ≡ true
+  list = and_r (is_stated kind stated) (is_list from to) sent
+
+  pub sent_gaps : (length (gaps from to) ≤ 31) × All (λ gap. gap ≤ 999999) (gaps from to)
+  sent_gaps = (
+    omega (arith, one_less from to list, (list_within from to list).1),
+    gaps_small 0 from to (list_ordered from to list),
+  )
+
+module _ {kind stated : ℕ} {from to buffer : List ℕ} {given lines : ℕ} {after : List ℕ}
+    (p : WorksitesPost kind stated from to buffer given lines after) where
+  -- THEOREM: a refusal writes nothing, and gives no line
+  pub refused_stays : (given ≡ 0 → ⊥) → (lines ≡ 0) × (after ≡ buffer)
+  refused_stays h = (p.counted ∙ rw (ne_eqb given 0 h), p.bytes ∙ rw (ne_eqb given 0 h))
+
+  -- THEOREM: where the answer is 0 the lines of the gaps stand at the front, 17 bytes each, and later bytes stay
+  pub accepted_lines : given ≡ 0 → stated < 65536
+      → (lines ≡ length (gaps from to))
+      × (17 * lines ≤ length buffer)
+      × (after ≡ gap_lines kind stated (gaps from to) ++ drop (17 * lines) buffer)
+      × (take (17 * lines) after ≡ gap_lines kind stated (gaps from to))
+  accepted_lines e s =
+      let text : List ℕ = gap_lines kind stated (gaps from to) in
+      let a = accepted_list kind stated from to (length buffer) (sym p.answered ∙ e) in
+      let g = sent_gaps kind stated from to a.1 in
+      let count : lines ≡ length (gaps from to) = p.counted ∙ rw e in
+      let size : length text ≡ 17 * lines =
+      gap_lines-length kind stated (gaps from to) s g.1 ∙ ap (λ n. 17 * n) (sym count) in
+      let bytes : after ≡ text ++ drop (17 * lines) buffer = p.bytes ∙ rw (e, size) in
+      (count, omega (arith, count, g.0, a.0), bytes, rw bytes (take_at text (drop (17 * lines) buffer) (17 * lines) size))

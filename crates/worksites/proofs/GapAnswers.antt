@@ -9,12 +9,12 @@ use lib.ListN.{length, drop, drop_of_length-le}
 use Rattle.std.specs.List.{All}
 use Rattle.lists.specs.Search.{any}
 use Rattle.lists.proofs.Tests.{and_l, and_r}
-use Rattle.columns.specs.Line.{line, with_line, Written}
-use Rattle.columns.proofs.Writing.{writable-room, total}
+use Rattle.columns.specs.Line.{Written}
+use Rattle.columns.proofs.Writing.{total, line_fills}
 use Rattle.rules.specs.Refusals.{lowest}
 use Rattle.rules.specs.Worksites.{is_twa_no, is_stated, are_worksites, is_list, gaps, is_too_far, are_too_far}
 use Rattle.rules.specs.Worksites.{worksites_refusals, worksites_answer, due, gap_widths, gap_line, gap_lines, WorksitesPost}
-use Rattle.rules.proofs.Gaps.{gaps_small, one_less, list_within, gap_fits, gap_17}
+use Rattle.rules.proofs.Gaps.{list_within, sent_gaps, gap_fits}
 
 module _ (kind stated : ℕ) (from to buffer : List ℕ) where
   abbrev Post : ℕ → ℕ → List ℕ → Type 0
@@ -54,18 +54,13 @@ module _ (kind stated : ℕ) (from to buffer : List ℕ) where
 
 -- a list of worksites for the kind: there is one at least and 32 at most, so there is room for a line for each gap
 module _ (kind stated : ℕ) (from to : List ℕ) (sent : (is_stated kind stated && is_list from to) ≡ true) where
-  list : is_list from to ≡ true
-  list = and_r (is_stated kind stated) (is_list from to) sent
-
   pub some_worksites : (1 ≤ length from) × (length from ≤ 32)
-  some_worksites = list_within from to list
+  some_worksites = list_within from to (and_r (is_stated kind stated) (is_list from to) sent)
 
   -- and each is in range
   pub lines_due : (xs : List ℕ) → xs ≡ gaps from to → (room : ℕ) → 527 ≤ room
       → (17 * length xs ≤ room) × All (λ gap. gap ≤ 999999) xs
-  unfolding is_list
-  lines_due xs e room h =
-      rw e (omega (arith, one_less from to list, some_worksites.1), gaps_small 0 from to (and_r _ _ list))
+  lines_due xs e room h = let g = sent_gaps kind stated from to sent in rw e (omega (arith, g.0), g.1)
 
 -- ---- a line
 
@@ -73,11 +68,7 @@ module _ (kind stated : ℕ) (from to : List ℕ) (sent : (is_stated kind stated
 pub line_filled : (kind stated gap what : ℕ) (buffer after : List ℕ) (answer : Bool) → stated < 65536 → gap ≤ 999999
     → length buffer ≡ 17 → what ≡ due kind stated gap
     → Written gap_widths (gap ∷ what ∷ []) buffer after answer → after ≡ gap_line kind stated gap
-unfolding gap_line total with_line
+unfolding gap_line total
 line_filled kind stated gap what buffer after answer s g l d w =
-    let fits = gap_fits kind stated gap s g in
-    let can = writable-room (length buffer) gap_widths (gap ∷ due kind stated gap ∷ []) fits (omega arith) in
-    let long = gap_17 kind stated gap s g in
-    w.bytes ∙ rw (d, can)
-    (ap (λ (t : List ℕ). line gap_widths (gap ∷ due kind stated gap ∷ []) ++ t) (drop_of_length-le buffer (omega arith))
-    ∙ append-nil _)
+    line_fills gap_widths (gap ∷ due kind stated gap ∷ []) buffer after answer (rw d at w)
+    (gap_fits kind stated gap s g) l

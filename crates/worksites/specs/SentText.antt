@@ -60,13 +60,11 @@ SentRead text (Err n) = (is_malformed text ≡ true) × (n ≡ malformed_line te
 
 -- ---- what is printed
 
--- the answer, with room for all lines
-abbrev pub answer_in : List ℕ → ℕ
-answer_in text = worksites_answer (kind_in text) (stated_in text) (from_in text) (to_in text) (31 * 17)
+-- the lines of the gaps, or the refusal's number in 6 columns; there is room for all lines
+unfoldable pub gaps_text : ℕ → ℕ → List ℕ → List ℕ → List ℕ
+gaps_text kind stated from to =
+    cond (eqb (worksites_answer kind stated from to (31 * 17)) 0) (gap_lines kind stated (gaps from to))
+    (line (6 ∷ []) (worksites_answer kind stated from to (31 * 17) ∷ []))
 
--- the lines of the gaps, or the refusal's number in 6 columns
-unfoldable pub gaps_printed : List ℕ → List ℕ
-gaps_printed text =
-    cond (eqb (answer_in text) 0)
-    (gap_lines (kind_in text) (stated_in text) (gaps (from_in text) (to_in text)))
-    (line (6 ∷ []) (answer_in text ∷ []))
+abbrev pub gaps_printed : List ℕ → List ℕ
+gaps_printed text = gaps_text (kind_in text) (stated_in text) (from_in text) (to_in text)
