@@ -1,9 +1,11 @@
 // The panel: scenario after scenario, each a heading and the journal of its calls, or the shift sheet after them, or
-// what the register then holds. CASES.md says what each shows and the answers that documents 01 and 02 ask, worked out
-// by hand. The lists of scenarios, of sheets and of registers, the plans and the calls stand in data/.
+// what the register then holds; and last what is due for worksites. CASES.md says what each shows and the answers that
+// documents 01 and 02 ask, worked out by hand. The lists of scenarios, of sheets, of registers and of worksites, the
+// plans and the calls stand in data/.
 #![tactic(auto)]
 
 mod edges;
+mod gaps;
 mod held;
 mod list;
 mod output;
@@ -41,4 +43,5 @@ fn main(rt: HostRuntime) {
             print_held(rt, run_files(rt, plan, calls, &silent).register());
         },
     );
+    gaps::run_gaps(rt, b"gaps");
 }
