@@ -50,7 +50,11 @@ impl fmt::Display for Failure<'_> {
             }
             Failure::Endless { name } => write!(f, "{}: the file has no end", Name(name)),
             Failure::MalformedWorksites { name, line } => {
-                write!(f, "{}: line {line} is malformed, and no gap is looked at", Name(name))
+                write!(
+                    f,
+                    "{}: line {line} is malformed, and no gap is looked at",
+                    Name(name)
+                )
             }
         }
     }

@@ -28,11 +28,7 @@ fn print_lines<W: Write>(sent: &Sent, output: &mut W) -> Result<(), Failure<'sta
 }
 
 // Prints what is due for the worksites of a text. The file of the text goes by that name.
-fn print_text<'a, W: Write>(
-    text: &[u8],
-    name: &'a [u8],
-    output: &mut W,
-) -> Result<(), Failure<'a>>
+fn print_text<'a, W: Write>(text: &[u8], name: &'a [u8], output: &mut W) -> Result<(), Failure<'a>>
     ensures { GapsAfter text.now (W.contents output.old) (W.contents output.new) result }
 {
     match read_sent(text) {

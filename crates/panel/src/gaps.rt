@@ -69,7 +69,10 @@ fn show_line<R: Print + Eprint>(rt: &R, line: &str) {
 // Shows the cases of the file.
 pub fn run_gaps<R: Files + Print + Eprint>(rt: &R, file: &[u8]) {
     let mut text = [0; 8192];
-    for line in str::from_utf8(read(rt, file, &mut text)).unwrap_or("malformed").lines() {
+    for line in str::from_utf8(read(rt, file, &mut text))
+        .unwrap_or("malformed")
+        .lines()
+    {
         show_line(rt, line);
     }
 }

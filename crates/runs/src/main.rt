@@ -73,12 +73,24 @@ fn run_list<R: Files, F: Fn(&str)>(
 
 fn main(rt: HostRuntime) -> ExitCode {
     let output = rt.stdout();
-    let boards = run_list(&rt, b"list", output, rt.stderr(), &|folder: &str| {
-        run_folder(&rt, folder, output, output);
-    });
-    let worksites = run_list(&rt, b"list_worksites", output, rt.stderr(), &|folder: &str| {
-        run_worksites(&rt, folder, output, output);
-    });
+    let boards = run_list(
+        &rt,
+        b"list",
+        output,
+        rt.stderr(),
+        &|folder: &str| {
+            run_folder(&rt, folder, output, output);
+        },
+    );
+    let worksites = run_list(
+        &rt,
+        b"list_worksites",
+        output,
+        rt.stderr(),
+        &|folder: &str| {
+            run_worksites(&rt, folder, output, output);
+        },
+    );
     if boards == ExitCode::SUCCESS {
         worksites
     } else {
