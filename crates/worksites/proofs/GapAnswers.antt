@@ -1,18 +1,18 @@
 -- The whole result, answer by answer. Assumes nothing.
-use mathlib.Core.Path.{◌≡◌, refl, sym, ap, ◌∙◌}
-use mathlib.Core.Bool.{Bool, true, false, not, ◌&&◌}
-use mathlib.Core.List.{List, [], ◌∷◌, ◌++◌, append-nil}
-use Prim.Native.Nat.{ℕ, ◌+◌, ◌*◌, ◌≤◌, ◌<◌}
+use mathlib.Core.Path.{◌≡◌, refl, sym, ◌∙◌}
+use mathlib.Core.Bool.{Bool, true, false, ◌&&◌}
+use mathlib.Core.List.{List, [], ◌∷◌, ◌++◌}
+use Prim.Native.Nat.{ℕ, ◌*◌, ◌≤◌, ◌<◌}
 use native.Mathlib.Omega.{arith}
 use borrow.Author.Tests.{lt-ltb, le-ltb}
-use lib.ListN.{length, drop, drop_of_length-le}
+use lib.ListN.{length, drop}
 use Rattle.std.specs.List.{All}
 use Rattle.lists.specs.Search.{any}
-use Rattle.lists.proofs.Tests.{and_l, and_r}
+use Rattle.lists.proofs.Tests.{and_r}
 use Rattle.columns.specs.Line.{Written}
 use Rattle.columns.proofs.Writing.{total, line_fills}
 use Rattle.rules.specs.Refusals.{lowest}
-use Rattle.rules.specs.Worksites.{is_twa_no, is_stated, are_worksites, is_list, gaps, is_too_far, are_too_far}
+use Rattle.rules.specs.Worksites.{is_twa_no, is_stated, is_list, gaps, is_too_far, are_too_far}
 use Rattle.rules.specs.Worksites.{worksites_refusals, worksites_answer, due, gap_widths, gap_line, gap_lines, WorksitesPost}
 use Rattle.rules.proofs.Gaps.{list_within, sent_gaps, gap_fits}
 

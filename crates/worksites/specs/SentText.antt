@@ -1,6 +1,6 @@
 -- A text of worksites: the kind and the officer's statement on its first line, then from and to of a worksite a line;
 -- and what is printed for it (02, order 9). The form is the product's own. Assumes nothing.
-use Rattle.std.specs.Prelude.{ℕ, ◌*◌, ◌+◌, ◌≡◌, Bool, true, false, cond, not, ◌||◌, List, [], ◌∷◌, ◌++◌, map, length, take}
+use Rattle.std.specs.Prelude.{ℕ, ◌*◌, ◌+◌, ◌≡◌, Bool, true, false, cond, not, ◌||◌, List, [], ◌∷◌, map, length}
 use Rattle.std.specs.Prelude.{drop, get_or, min, eqb, Option, Some, None, Result, Ok, Err}
 use Rattle.columns.specs.Line.{line}
 use Rattle.columns.specs.Reading.{row_of}

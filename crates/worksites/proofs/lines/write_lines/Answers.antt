@@ -1,7 +1,6 @@
 -- `worksites::lines::write_lines` meets its contract. The loop's invariant: the lines of the first i gaps stand at the
 -- front. Assumes nothing.
-use Rattle.std.proofs.Common.{◌∙◌, ◌+◌, ◌*◌, ◌≤◌, arith, ap, length, get_or}
-use Rattle.columns.proofs.Writing.{part_length}
+use Rattle.std.proofs.Common.{◌∙◌, arith, ap, length, get_or}
 use Rattle.rules.specs.Worksites.{gap_line, gap_lines}
 use Rattle.rules.proofs.Gaps.{gap_17}
 use Rattle.rules.proofs.PrintedLines.{printed_none, listed_next, listed_all}

@@ -1,6 +1,6 @@
 -- `worksites::sent::are_worksites` meets its contract. The loop's invariant: the answer is that of the worksites still
 -- to come. Assumes nothing.
-use Rattle.std.proofs.Common.{◌∷◌, arith, refl}
+use Rattle.std.proofs.Common.{◌∷◌}
 use Rattle.std.specs.Iterator.Adapters.{zip_first, zip_second}
 use Rattle.std.specs.Slice.Iter.{iter_rest}
 use Rattle.std.proofs.lemmas.Slice.Zip.{Zip-more}
