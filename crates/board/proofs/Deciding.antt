@@ -1,7 +1,7 @@
 -- A call in the steps of the code: what the decoded call says of the answer, and what a call with room for its line
 -- leaves. Assumes nothing.
 use Rattle.std.proofs.Common.{◌≡◌, refl, sym, ap, subst, ◌∙◌, ℕ, suc, Bool, true, false, cond, ◌∷◌, length, eqb, eq-eqb}
-use Rattle.std.proofs.Common.{ne_eqb, arith, Option, Some, None, Result, Ok, Err}
+use Rattle.std.proofs.Common.{ne_eqb, Option, Some, None, Result, Ok, Err}
 use Rattle.std.proofs.Common.{zero, ⊎_elim, drop}
 use lib.ListN.{get_or-eq_default}
 use Rattle.std.specs.Prelude.{IsErr}

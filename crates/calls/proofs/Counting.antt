@@ -1,15 +1,11 @@
 -- A run makes no more calls than it may. Assumes nothing.
-use Prim.Native.Nat.{ℕ, zero, suc, ◌/◌, ◌≤◌}
+use Prim.Native.Nat.{ℕ, ◌/◌, ◌≤◌}
 use native.Mathlib.Omega.{arith}
 use mathlib.Core.List.{List}
-use lib.ListN.{length, take, drop}
-use Rattle.columns.specs.LinesIn.{lines_in}
+use lib.ListN.{length}
 use Rattle.columns.proofs.LinesRead.{lines_in_most}
-use Rattle.rules.specs.declared.Seven.{Seven}
 use Rattle.rules.specs.declared.Register.{Register}
-use Rattle.std.specs.Prelude.{Option, Some, None}
 use Rattle.calls.specs.CallLine.{line_in}
-use Rattle.calls.specs.CallsIn.{calls_in}
 use Rattle.calls.specs.Run.{run_of, RunPost}
 
 -- as many lines as the buffer has room for, at most

@@ -1,17 +1,16 @@
 -- A line of the page made cell by cell in a lent buffer. Assumes nothing.
-use mathlib.Core.Path.{◌≡◌, refl, sym, ap, ap₂, ◌∙◌}
+use mathlib.Core.Path.{◌≡◌, refl, sym, ap, ◌∙◌}
 use mathlib.Core.Bool.{Bool, true}
-use mathlib.Core.List.{List, [], ◌∷◌, ◌++◌, append_assoc, append-nil}
+use mathlib.Core.List.{List, [], ◌∷◌, ◌++◌}
 use Prim.Native.Nat.{ℕ, suc, ◌+◌, ◌-◌, ◌≤◌, ◌<◌}
 use native.Mathlib.Omega.{arith}
 use lib.ListN.{length, take, drop, set, length-append, length-drop, drop_of_length-le}
-use lib.Seq.{length-take-le, take_at, drop_at, drop-drop, set_split}
-use borrow.Rule.Slice.PartMut.{mid_of, put_mid, Post-is}
+use lib.Seq.{length-take-le, set_split}
+use borrow.Rule.Slice.PartMut.{mid_of, put_mid}
 use Rattle.columns.proofs.Writing.{part_length, part_back, total}
 use Rattle.columns.specs.declared.cells.Cell.{Cell}
 use Rattle.columns.specs.Cells.{cell, cell_line, cells_fit, Filled}
 use Rattle.columns.proofs.CellsLaws.{cell-length, cell_line-length, cells_next, cell_line_step}
-use Rattle.rules.specs.Sheet.{page_of}
 use Rattle.columns.specs.Line.{line_of}
 
 -- where cells stand in at bytes of the line: those still to come fit, there is room for them and for the line feed, and

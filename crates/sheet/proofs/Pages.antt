@@ -1,13 +1,11 @@
 -- The lines of the live authorities, one authority a turn, and the whole page. Assumes nothing.
 use mathlib.Core.Path.{◌≡◌, refl, sym, ap, subst, ◌∙◌}
 use mathlib.Core.Bool.{Bool, true, false, cond}
-use mathlib.Core.List.{List, [], ◌∷◌, ◌++◌, map, map-append, Memᴰ}
+use mathlib.Core.List.{List, [], ◌∷◌, ◌++◌, map, Memᴰ}
 use Prim.Native.Nat.{ℕ, ◌+◌, ◌-◌, ◌*◌, ◌≤◌, ◌<◌}
 use native.Mathlib.Omega.{arith}
 use borrow.Author.Tests.{lt-ltb}
-use native.Mathlib.Numerals.{add-one}
-use lib.Seq.{take-suc}
-use lib.ListN.{length, take, drop, get_or, length-append, length-drop, length-map}
+use lib.ListN.{length, drop, get_or, length-append, length-drop, length-map}
 use borrow.Rule.Slice.PartMut.{put_mid}
 use Rattle.lists.proofs.Search.{member_at}
 use Rattle.columns.specs.declared.cells.Cell.{Cell}
