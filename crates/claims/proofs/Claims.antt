@@ -1,20 +1,24 @@
--- Every claim about the functions `open`, `call`, `run` and `write_sheet`, in order: that what they ask is always met,
--- that they follow the rules, demands 1, 2 and 3, and what each order adds.
+-- Every claim about the functions `open`, `call`, `run`, `write_sheet` and `write_gaps`, in order: that what they ask
+-- is always met, that they follow the rules, demands 1, 2 and 3, and what each order adds.
 -- `Ran plan ms ts r` (Ran.antt): a board was opened from the text plan, then the calls ms were made, one by one or as
 -- texts of calls, ts is what was told of them, and r the register that was returned last. `Calling`, `Running`,
--- `WritingSheet` and `Opening`: one use of a function, at any arguments. Assumes nothing.
-use Prim.Native.Nat.{ℕ, ◌*◌, ◌/◌, ◌≤◌, ◌<◌}
+-- `WritingSheet`, `WritingGaps` and `Opening`: one use of a function, at any arguments. Assumes nothing.
+use Prim.Native.Nat.{ℕ, ◌+◌, ◌*◌, ◌/◌, ◌≤◌, ◌<◌}
+use native.Mathlib.Omega.{arith}
 use mathlib.Core.Path.{◌≡◌, refl, sym, ap, subst, subst₂, ◌∙◌}
-use mathlib.Core.Bool.{true, false}
+use mathlib.Core.Bool.{true, false, ◌&&◌}
 use mathlib.Core.List.{List, [], ◌∷◌, ◌++◌, map, append_assoc, append-nil}
-use lib.ListN.{length, drop, get_or, replicate, length-replicate}
+use lib.ListN.{length, take, drop, get_or, replicate, length-replicate}
 use borrow.Author.Tests.{lt-ltb, le-ltb}
 use Rattle.std.specs.Prelude.{Some, Result}
+use Rattle.std.proofs.lemmas.List.Elements.{All-get_or}
 use Rattle.lists.specs.Distinct.{Distinct}
 use Rattle.lists.specs.Order.{Ascending}
 use Rattle.lists.specs.Search.{any}
 use Rattle.lists.proofs.Search.{Member}
+use Rattle.lists.proofs.Tests.{and_l, and_r}
 use Rattle.sets.specs.Sets.{has, least, greatest}
+use Rattle.columns.specs.Reading.{row_of}
 use Rattle.columns.specs.declared.cells.Cell.TheVariants.{Empty, Number}
 use Rattle.rules.specs.declared.Authority.{Authority}
 use Rattle.rules.specs.declared.AuthorityNo.{AuthorityNo}
@@ -34,15 +38,19 @@ use Rattle.rules.specs.Claim.{Safe}
 use Rattle.rules.specs.Journal.{journal_line}
 use Rattle.rules.specs.Plan.{is_plan, open_board}
 use Rattle.rules.specs.Reckoning.{Reckoning, Reckoned, at_start, agreement, reckoned}
-use Rattle.rules.specs.Refusals.{conditions, answer}
+use Rattle.rules.specs.Refusals.{lowest, conditions, answer}
 use Rattle.rules.specs.Sheet.{now_of, authority_cells, sheet_lines, sheet}
 use Rattle.rules.specs.Step.{Made, Answered, Once, Kept, after, trace, final}
 use Rattle.rules.specs.Stored.{exclusive_portions, twa_portions, needed_gates, Stored, SortsApart, changes_sets}
+use Rattle.rules.specs.Worksites.{is_stated, is_list, gaps, due, worksites_refusals, worksites_answer, gap_widths}
+use Rattle.rules.specs.Worksites.{gap_lines}
 use Rattle.rules.proofs.Agreements.{Recorded, list_agreements, list_lpas}
 use Rattle.rules.proofs.Answers.{NoneHolds, Refused, accepted_none, none_accepted, refused_lowest, lowest_refused}
 use Rattle.rules.proofs.Answers.{refused_none, short_line, long_line}
 use Rattle.rules.proofs.Bookings.{Booked, NeededBy, list_booked, limits_protected, needed_not_restored}
 use Rattle.rules.proofs.Equality.{equal_same, NoneOfLpas, same_equal}
+use Rattle.rules.proofs.Gaps.{worksites_none, worksites_refused, accepted_list, gap_17, gap_read, one_less, gap_at}
+use Rattle.rules.proofs.Gaps.{stated_most, sent_gaps, refused_stays, accepted_lines}
 use Rattle.rules.proofs.HeldSets.{same_board_sets, sets_opened}
 use Rattle.rules.proofs.Once.{held_once}
 use Rattle.rules.proofs.Opening.{fresh, refused_plan}
@@ -58,9 +66,10 @@ use Rattle.calls.specs.Run.{made, journal, run_of}
 use Rattle.calls.proofs.Parts.{final_append}
 use Rattle.calls.proofs.RunUses.{Running, RunAsks, running_post, run_asks}
 use Rattle.sheet.proofs.SheetUses.{WritingSheet, SheetAsks, sheet_post, sheet_asks}
+use Rattle.worksites.proofs.GapUses.{WritingGaps, gaps_post}
 use Rattle.claims.specs.Told.{Told, answers_of, tells, numbers_due, count_requests}
 use Rattle.claims.proofs.Counted.{numbers_from_1, last_is_count}
-use Rattle.claims.proofs.Possible.{open_possible, call_possible, run_possible, sheet_possible}
+use Rattle.claims.proofs.Possible.{open_possible, call_possible, run_possible, sheet_possible, gaps_possible}
 use Rattle.claims.proofs.Ran.{made_with, Ran, ran_open, ran_call, ran_run}
 use Rattle.claims.proofs.Telling.{board_more, told_more, tells_trace, told_since, refused_err, call_told, run_told}
 
@@ -396,6 +405,64 @@ module _ {r : Register} {page : List ℕ} {out : Result ℕ Refusal} {page' : Li
       let b = ran_board h in
       (p.answered ∙ rw e, p.counted ∙ rw (e, b), p.bytes ∙ rw (e, b))
 
+-- ---- order 9: worksites
+
+-- `write_gaps` asks nothing, and reads no register
+module _ {kind stated : ℕ} {from to buffer : List ℕ} {out : Result ℕ Refusal} {buffer' : List ℕ}
+    (w : WritingGaps kind stated from to buffer out buffer') where
+  -- the answer is 0 exactly where no condition holds, and n exactly where condition n holds and none lower does
+  pub gaps_accepted_iff :
+      let cs = worksites_refusals kind stated from to (length buffer) in
+      (answer_no out ≡ 0 → NoneHolds cs) × (NoneHolds cs → answer_no out ≡ 0)
+  gaps_accepted_iff = rw (gaps_post w).answered (worksites_none kind stated from to (length buffer))
+
+  pub gaps_refused_iff : (n : ℕ) → 0 < n
+      → let cs = worksites_refusals kind stated from to (length buffer) in
+      (answer_no out ≡ n → Refused n cs) × (Refused n cs → answer_no out ≡ n)
+  gaps_refused_iff n p = rw (gaps_post w).answered (worksites_refused kind stated from to (length buffer) n p)
+
+  -- "A shorter one gives 1 first": fewer bytes than 31 lines of 17, whatever the kind, the statement and the list
+  pub gaps_short : length buffer < 527 → answer_no out ≡ 1
+  unfolding worksites_answer worksites_refusals lowest
+  gaps_short h = (gaps_post w).answered ∙ rw (lt-ltb (length buffer) 527 h)
+
+  -- "refusals write nothing": no line, and the bytes stay
+  pub gaps_refused : (answer_no out ≡ 0 → ⊥) → (lines_no out ≡ 0) × (buffer' ≡ buffer)
+  gaps_refused = refused_stays (gaps_post w)
+
+  module _ (accepted : answer_no out ≡ 0) where
+    sent : (is_stated kind stated && is_list from to) ≡ true
+    sent = (accepted_list kind stated from to (length buffer) (sym (gaps_post w).answered ∙ accepted)).1
+
+    small : stated < 65536
+    small = omega (arith, stated_most kind stated (and_l (is_stated kind stated) (is_list from to) sent))
+
+    -- a line for each gap, and so one less than worksites
+    pub gaps_counted : (lines_no out ≡ length (gaps from to)) × (lines_no out + 1 ≡ length from)
+    gaps_counted =
+        let count = (accepted_lines (gaps_post w) accepted small).0 in
+        (count, rw count (one_less from to (and_r (is_stated kind stated) (is_list from to) sent)))
+
+    -- there is room for them: they stand at the front, and later bytes stay
+    pub gaps_written : (17 * lines_no out ≤ length buffer)
+        × (buffer' ≡ gap_lines kind stated (gaps from to) ++ drop (17 * lines_no out) buffer)
+    gaps_written = let a = accepted_lines (gaps_post w) accepted small in (a.1, a.2)
+
+    -- line i has 17 bytes, and is read back as gap i and what is due for it, which is by cases in rules' Gaps.antt
+    -- (`due_of_lpa`, `due_of_twa`)
+    pub gap_written : (i : ℕ) → i < lines_no out
+        → let written = take 17 (drop (17 * i) buffer') in
+        let gap = get_or (gaps from to) i 0 in
+        (length written ≡ 17)
+        × (row_of 99999999 gap_widths written ≡ record { numbers = gap ∷ due kind stated gap ∷ []; whole = true })
+    gap_written i l =
+        let gap : ℕ = get_or (gaps from to) i 0 in
+        let within : i < length (gaps from to) = omega (arith, gaps_counted.0) in
+        let all = (sent_gaps kind stated from to sent).1 in
+        let most = All-get_or (λ gap. gap ≤ 999999) (gaps from to) i 0 within all in
+        rw (gaps_written.1, gap_at kind stated (gaps from to) (drop (17 * lines_no out) buffer) i small all within)
+        (gap_17 kind stated gap small most, gap_read kind stated gap small most)
+
 -- ---- no contract asks what can't be
 
 module _ {plan : List ℕ} {ms : List Made} {ts : List Told} {r : Register} (h : Ran plan ms ts r) where
@@ -427,3 +494,8 @@ more_calls {plan} (m ∷ ms') {ms} h =
 
 pub ran_exists : (plan : List ℕ) (ms : List Made) → (ts : List Told) × (r : Register) × Ran plan ms ts r
 ran_exists plan ms = let (opened, o) = open_possible plan in more_calls ms (ran_open o)
+
+-- and whatever the kind, the statement, the worksites and the buffer, `write_gaps` can return what its contract says
+pub can_write_gaps : (kind stated : ℕ) (from to buffer : List ℕ)
+    → (out : Result ℕ Refusal) × (buffer' : List ℕ) × WritingGaps kind stated from to buffer out buffer'
+can_write_gaps = gaps_possible

@@ -4,7 +4,7 @@
 use Prim.Native.Nat.{ℕ, zero, suc, ◌+◌, ◌*◌, ◌/◌, ◌≤◌, ◌<◌}
 use native.Mathlib.Omega.{arith}
 use mathlib.Core.Path.{◌≡◌, refl, sym, ap, subst, ◌∙◌}
-use mathlib.Core.Bool.{Bool, true, false, cond, ◌&&◌, true≢false}
+use mathlib.Core.Bool.{Bool, true, false, cond, not, ◌&&◌, true≢false}
 use mathlib.Core.List.{List, [], ◌∷◌, ◌++◌, map}
 use lib.Dec.{eqb}
 use lib.ListN.{length, get_or, drop}
@@ -27,7 +27,7 @@ use Rattle.rules.specs.Answer.{refusal_no, answer_no, number_no, is_numbered}
 use Rattle.rules.specs.Board.{Board, board_of}
 use Rattle.rules.specs.Journal.{line_after}
 use Rattle.rules.specs.Plan.{is_plan, open_board, open_answer}
-use Rattle.rules.specs.Refusals.{answer}
+use Rattle.rules.specs.Refusals.{lowest, answer}
 use Rattle.rules.specs.Stored.{exclusive_portions, twa_portions, needed_gates, Stored, SortsApart}
 use Rattle.rules.specs.Step.{Made, Once, Starts, Kept, after, allotted, final}
 use Rattle.rules.proofs.Answers.{answer_most, refused_same}
@@ -38,6 +38,8 @@ use Rattle.rules.proofs.Safety.{list_follows}
 use Rattle.rules.proofs.SortsKept.{sorts_list}
 use Rattle.rules.proofs.Terms.{starts_after, starts_opened}
 use Rattle.rules.specs.Sheet.{sheet_lines, sheet, is_short}
+use Rattle.rules.specs.Worksites.{is_stated, is_list, gaps, is_short_of_lines, are_too_far, worksites_refusals}
+use Rattle.rules.specs.Worksites.{worksites_answer, gap_lines}
 use Rattle.board.proofs.BoardUses.{Opening, Calling, post_opening, post_calling}
 use Rattle.calls.specs.declared.piece.AfterRun.{AfterRun}
 use Rattle.calls.specs.CallsIn.{calls_in}
@@ -45,6 +47,7 @@ use Rattle.calls.specs.Run.{made, journal, run_of}
 use Rattle.calls.proofs.Parts.{final_append}
 use Rattle.calls.proofs.RunUses.{Running, post_running}
 use Rattle.sheet.proofs.SheetUses.{WritingSheet, post_sheet}
+use Rattle.worksites.proofs.GapUses.{WritingGaps, post_gaps}
 
 -- ---- a register for a board
 
@@ -257,3 +260,30 @@ sheet_possible r page = go (is_short (length page)) refl
       sheet b ++ drop (length (sheet b)) page,
       post_sheet (record { answered = rw z; counted = rw z; bytes = rw z }),
     )
+
+-- any kind, statement, worksites and buffer at all
+module _ (kind stated : ℕ) (from to buffer : List ℕ) where
+  abbrev SomeResult : Type 0
+  SomeResult = (out : Result ℕ Refusal) × (buffer' : List ℕ) × WritingGaps kind stated from to buffer out buffer'
+
+  abbrev text : List ℕ
+  text = gap_lines kind stated (gaps from to)
+
+  by_cases : (short wrong far : Bool) → is_short_of_lines (length buffer) ≡ short
+      → not (is_stated kind stated && is_list from to) ≡ wrong
+      → are_too_far kind from to ≡ far → SomeResult
+  unfolding worksites_answer worksites_refusals lowest
+  by_cases true wrong far e f g =
+      (Err ShortLine, buffer, post_gaps (record { answered = rw e; counted = refl; bytes = refl }))
+  by_cases false true far e f g =
+      (Err Worksites, buffer, post_gaps (record { answered = rw (e, f); counted = refl; bytes = refl }))
+  by_cases false false true e f g =
+      (Err TooFarApart, buffer, post_gaps (record { answered = rw (e, f, g); counted = refl; bytes = refl }))
+  by_cases false false false e f g = (
+    Ok (length (gaps from to)),
+    text ++ drop (length text) buffer,
+    post_gaps (record { answered = rw (e, f, g); counted = refl; bytes = refl }),
+  )
+
+  pub gaps_possible : SomeResult
+  gaps_possible = by_cases _ _ _ refl refl refl

@@ -1,32 +1,31 @@
 -- What is due for the gaps between worksites (02, order 9): when a list is refused, what is due by cases, the lines, and
 -- that the gaps and the worksites fill the stretch. Assumes nothing.
 use mathlib.Core.Path.{◌≡◌, refl, sym, ap, ◌∙◌}
-use mathlib.Core.Logic.{◌⊎◌, inl, inr, ⊎_elim}
-use mathlib.Core.Bool.{Bool, true, false, cond, not, ◌&&◌, false≢true}
+use mathlib.Core.Logic.{⊎_elim}
+use mathlib.Core.Bool.{Bool, true, false, cond, ◌&&◌, false≢true}
 use mathlib.Core.List.Memᴰ
-use mathlib.Core.List.{List, [], ◌∷◌, ◌++◌, map}
-use Prim.Native.Nat.{ℕ, zero, suc, ◌+◌, ◌-◌, ◌*◌, ◌^◌, ◌≤◌, ◌<◌}
+use mathlib.Core.List.{List, [], ◌∷◌, ◌++◌, append_assoc}
+use Prim.Native.Nat.{ℕ, zero, suc, ◌+◌, ◌-◌, ◌*◌, ◌≤◌, ◌<◌}
 use native.Mathlib.Omega.{arith}
-use borrow.Author.Tests.{lt-ltb, le-ltb, le-leb, lt-leb, leb-true, ltb-false, ne_eqb}
+use borrow.Author.Tests.{lt-ltb, le-ltb, le-leb, lt-leb, leb-true, ltb-false, ne_eqb, eqb-true}
 use lib.Dec.{eqb, leb, ltb}
 use lib.ListN.{length, take, drop, get_or, length-append}
-use lib.Seq.{take_at}
+use lib.Seq.{take_at, drop_at, drop-drop}
 use Rattle.std.specs.Prelude.{sum}
 use Rattle.std.specs.List.{All}
-use Rattle.std.proofs.lemmas.Bool.{not-false, and_from}
+use Rattle.std.proofs.lemmas.Bool.{not-false, and_from, or_cases}
 use Rattle.std.proofs.lemmas.List.Elements.{All-nil, All-cons, All-head, All-tail}
 use Rattle.std.proofs.lemmas.List.Sums.{sum_by-cons}
-use Rattle.lists.specs.Search.{any}
 use Rattle.lists.proofs.Tests.{and_l, and_r}
-use Rattle.columns.specs.Line.{line, all_fit, fit_of}
+use Rattle.columns.specs.Line.{all_fit, fit_of}
 use Rattle.columns.specs.Reading.{row_of}
 use Rattle.columns.proofs.Writing.{fits_below, line-length, total}
 use Rattle.columns.proofs.Rows.{at_most, read_line}
 use Rattle.sets.specs.Sets.{between}
-use Rattle.rules.specs.Refusals.{Refusal, ◌when◌, lowest}
+use Rattle.rules.specs.Refusals.{Refusal}
 use Rattle.rules.specs.Sheet.{page_of}
 use Rattle.rules.specs.Worksites.{is_lpa_no, is_twa_no, is_stated, are_worksites, is_list, distances, gaps, due}
-use Rattle.rules.specs.Worksites.{due_in_lpa, due_in_twa, is_too_far, are_too_far, worksites_refusals, worksites_answer}
+use Rattle.rules.specs.Worksites.{due_in_lpa, due_in_twa, are_too_far, worksites_refusals, worksites_answer}
 use Rattle.rules.specs.Worksites.{gap_widths, gap_line, gap_lines, WorksitesPost}
 use Rattle.rules.proofs.Answers.{ascends, Lowest, lowest_is, NoneHolds, none_holds, is_zero, Refused, refused_by}
 use Rattle.rules.proofs.Answers.{is_refused}
@@ -245,6 +244,38 @@ gap_lines-length kind stated (gap ∷ gs) s a =
     let rest = gap_lines-length kind stated gs s (All-tail (λ gap. gap ≤ 999999) gap gs a) in
     length-append (gap_line kind stated gap) (gap_lines kind stated gs)
     ∙ omega (arith, gap_17 kind stated gap s small, rest)
+
+-- THEOREM: the line of gap i stands behind those before it, whatever stands behind the lines
+pub gap_at : (kind stated : ℕ) (gs rest : List ℕ) (i : ℕ) → stated < 65536 → All (λ gap. gap ≤ 999999) gs
+    → i < length gs
+    → take 17 (drop (17 * i) (gap_lines kind stated gs ++ rest)) ≡ gap_line kind stated (get_or gs i 0)
+unfolding gap_lines page_of
+gap_at kind stated [] rest i s a l = absurd (omega arith)
+gap_at kind stated (gap ∷ gs) rest zero s a l =
+    let line = gap_line kind stated gap in
+    let others = gap_lines kind stated gs in
+    rw (append_assoc line others rest)
+    (take_at line (others ++ rest) 17 (gap_17 kind stated gap s (All-head (λ gap. gap ≤ 999999) gap gs a)))
+gap_at kind stated (gap ∷ gs) rest (suc i) s a l =
+    let line = gap_line kind stated gap in
+    let others = gap_lines kind stated gs in
+    let next : 17 * suc i ≡ 17 + 17 * i = omega arith in
+    rw (
+      append_assoc line others rest,
+      next,
+      ← drop-drop (17 * i) 17 (line ++ (others ++ rest)),
+      drop_at line (others ++ rest) 17 (gap_17 kind stated gap s (All-head (λ gap. gap ≤ 999999) gap gs a)),
+    )
+    (gap_at kind stated gs rest i s (All-tail (λ gap. gap ≤ 999999) gap gs a) (omega arith))
+
+-- the officer states 2 at most
+pub stated_most : (kind stated : ℕ) → is_stated kind stated ≡ true → stated ≤ 2
+unfolding is_stated
+stated_most kind stated h =
+    ⊎_elim
+    (λ e. leb-true stated 2 (and_r (leb 1 stated) (leb stated 2) (and_r (is_lpa_no kind) (between 1 2 stated) e)))
+    (λ e. omega (arith, eqb-true stated 0 (and_r (is_twa_no kind) (eqb stated 0) e)))
+    (or_cases (is_lpa_no kind && between 1 2 stated) (is_twa_no kind && eqb stated 0) h)
 
 -- a list for a kind has one line at least less than 32, and a gap of it no more metres than 999,999
 module _ (kind stated : ℕ) (from to : List ℕ) (sent : (is_stated kind stated && is_list from to) ≡ true) where

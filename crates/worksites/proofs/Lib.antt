@@ -1,6 +1,7 @@
--- The laws that this crate stands on: the steps of its loops, and its answers.
+-- The laws that this crate stands on: the steps of its loops, and its answers; and what one use of `write_gaps` is.
 mod SiteSteps
 mod GapSteps
 mod GapAnswers
 mod PairLines
 mod SentTexts
+pub mod GapUses
