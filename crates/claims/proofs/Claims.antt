@@ -16,7 +16,7 @@ use Rattle.lists.specs.Distinct.{Distinct}
 use Rattle.lists.specs.Order.{Ascending}
 use Rattle.lists.specs.Search.{any}
 use Rattle.lists.proofs.Search.{Member}
-use Rattle.lists.proofs.Tests.{and_l, and_r}
+use Rattle.lists.proofs.Tests.{and_r}
 use Rattle.sets.specs.Sets.{has, least, greatest}
 use Rattle.columns.specs.Reading.{row_of}
 use Rattle.columns.specs.declared.cells.Cell.TheVariants.{Empty, Number}
@@ -50,7 +50,7 @@ use Rattle.rules.proofs.Answers.{refused_none, short_line, long_line}
 use Rattle.rules.proofs.Bookings.{Booked, NeededBy, list_booked, limits_protected, needed_not_restored}
 use Rattle.rules.proofs.Equality.{equal_same, NoneOfLpas, same_equal}
 use Rattle.rules.proofs.Gaps.{worksites_none, worksites_refused, accepted_list, gap_17, gap_read, one_less, gap_at}
-use Rattle.rules.proofs.Gaps.{stated_most, sent_gaps, refused_stays, accepted_lines}
+use Rattle.rules.proofs.Gaps.{sent_gaps, sent_small, refused_stays, accepted_lines}
 use Rattle.rules.proofs.HeldSets.{same_board_sets, sets_opened}
 use Rattle.rules.proofs.Once.{held_once}
 use Rattle.rules.proofs.Opening.{fresh, refused_plan}
@@ -434,19 +434,16 @@ module _ {kind stated : ℕ} {from to buffer : List ℕ} {out : Result ℕ Refus
     sent : (is_stated kind stated && is_list from to) ≡ true
     sent = (accepted_list kind stated from to (length buffer) (sym (gaps_post w).answered ∙ accepted)).1
 
-    small : stated < 65536
-    small = omega (arith, stated_most kind stated (and_l (is_stated kind stated) (is_list from to) sent))
-
     -- a line for each gap, and so one less than worksites
     pub gaps_counted : (lines_no out ≡ length (gaps from to)) × (lines_no out + 1 ≡ length from)
     gaps_counted =
-        let count = (accepted_lines (gaps_post w) accepted small).0 in
+        let count = (accepted_lines (gaps_post w) accepted).0 in
         (count, rw count (one_less from to (and_r (is_stated kind stated) (is_list from to) sent)))
 
     -- there is room for them: they stand at the front, and later bytes stay
     pub gaps_written : (17 * lines_no out ≤ length buffer)
         × (buffer' ≡ gap_lines kind stated (gaps from to) ++ drop (17 * lines_no out) buffer)
-    gaps_written = let a = accepted_lines (gaps_post w) accepted small in (a.1, a.2)
+    gaps_written = let a = accepted_lines (gaps_post w) accepted in (a.1, a.2)
 
     -- line i has 17 bytes, and is read back as gap i and what is due for it, which is by cases in rules' Gaps.antt
     -- (`due_of_lpa`, `due_of_twa`)
@@ -457,6 +454,7 @@ module _ {kind stated : ℕ} {from to buffer : List ℕ} {out : Result ℕ Refus
         × (row_of 99999999 gap_widths written ≡ record { numbers = gap ∷ due kind stated gap ∷ []; whole = true })
     gap_written i l =
         let gap : ℕ = get_or (gaps from to) i 0 in
+        let small : stated < 65536 = sent_small kind stated from to sent in
         let within : i < length (gaps from to) = omega (arith, gaps_counted.0) in
         let all = (sent_gaps kind stated from to sent).1 in
         let most = All-get_or (λ gap. gap ≤ 999999) (gaps from to) i 0 within all in

@@ -1,5 +1,5 @@
 -- What is printed for worksites, from what `write_gaps` answers and leaves. Assumes nothing.
-use Prim.Native.Nat.{ℕ, ◌*◌, ◌<◌}
+use Prim.Native.Nat.{ℕ, ◌*◌}
 use mathlib.Core.Path.{◌≡◌, sym, ◌∙◌}
 use mathlib.Core.List.{List, [], ◌∷◌}
 use lib.ListN.{length, take}
@@ -18,11 +18,11 @@ module _ {kind stated : ℕ} {from to buffer : List ℕ} {given lines : ℕ} {af
   answered = rw room at p.answered
 
   -- the lines stand at the front of the buffer
-  pub lines_text : given ≡ 0 → stated < 65536 → take (17 * lines) after ≡ gaps_text kind stated from to
+  pub lines_text : given ≡ 0 → take (17 * lines) after ≡ gaps_text kind stated from to
   unfolding gaps_text
-  lines_text e s =
+  lines_text e =
       let zero : worksites_answer kind stated from to 527 ≡ 0 = sym answered ∙ e in
-      (accepted_lines p e s).3 ∙ rw zero
+      (accepted_lines p e).3 ∙ rw zero
 
   -- or the refusal is printed
   pub refusal_text : (refusal : Words.Refusal) → given ≡ refusal_no refusal

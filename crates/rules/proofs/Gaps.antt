@@ -1,5 +1,5 @@
--- What is due for the gaps between worksites (02, order 9): when a list is refused, what is due by cases, the lines, and
--- that the gaps and the worksites fill the stretch. Assumes nothing.
+-- What is due for the gaps between worksites (02, order 9): when a list is refused, what is due by cases, the lines,
+-- and that the gaps and the worksites fill the stretch. Assumes nothing.
 use mathlib.Core.Path.{◌≡◌, refl, sym, ap, ◌∙◌}
 use mathlib.Core.Logic.{⊎_elim}
 use mathlib.Core.Bool.{Bool, true, false, cond, ◌&&◌, false≢true}
@@ -269,7 +269,7 @@ gap_at kind stated (gap ∷ gs) rest (suc i) s a l =
     (gap_at kind stated gs rest i s (All-tail (λ gap. gap ≤ 999999) gap gs a) (omega arith))
 
 -- the officer states 2 at most
-pub stated_most : (kind stated : ℕ) → is_stated kind stated ≡ true → stated ≤ 2
+stated_most : (kind stated : ℕ) → is_stated kind stated ≡ true → stated ≤ 2
 unfolding is_stated
 stated_most kind stated h =
     ⊎_elim
@@ -277,7 +277,7 @@ stated_most kind stated h =
     (λ e. omega (arith, eqb-true stated 0 (and_r (is_twa_no kind) (eqb stated 0) e)))
     (or_cases (is_lpa_no kind && between 1 2 stated) (is_twa_no kind && eqb stated 0) h)
 
--- a list for a kind has one line at least less than 32, and a gap of it no more metres than 999,999
+-- of a list for its kind: there are 31 gaps at most, none is longer than the metres go, and the statement is small
 module _ (kind stated : ℕ) (from to : List ℕ) (sent : (is_stated kind stated && is_list from to) ≡ true) where
   list : is_list from to ≡ true
   list = and_r (is_stated kind stated) (is_list from to) sent
@@ -288,6 +288,9 @@ module _ (kind stated : ℕ) (from to : List ℕ) (sent : (is_stated kind stated
     gaps_small 0 from to (list_ordered from to list),
   )
 
+  pub sent_small : stated < 65536
+  sent_small = omega (arith, stated_most kind stated (and_l (is_stated kind stated) (is_list from to) sent))
+
 module _ {kind stated : ℕ} {from to buffer : List ℕ} {given lines : ℕ} {after : List ℕ}
     (p : WorksitesPost kind stated from to buffer given lines after) where
   -- THEOREM: a refusal writes nothing, and gives no line
@@ -295,17 +298,22 @@ module _ {kind stated : ℕ} {from to buffer : List ℕ} {given lines : ℕ} {af
   refused_stays h = (p.counted ∙ rw (ne_eqb given 0 h), p.bytes ∙ rw (ne_eqb given 0 h))
 
   -- THEOREM: where the answer is 0 the lines of the gaps stand at the front, 17 bytes each, and later bytes stay
-  pub accepted_lines : given ≡ 0 → stated < 65536
+  pub accepted_lines : given ≡ 0
       → (lines ≡ length (gaps from to))
       × (17 * lines ≤ length buffer)
       × (after ≡ gap_lines kind stated (gaps from to) ++ drop (17 * lines) buffer)
       × (take (17 * lines) after ≡ gap_lines kind stated (gaps from to))
-  accepted_lines e s =
+  accepted_lines e =
       let text : List ℕ = gap_lines kind stated (gaps from to) in
       let a = accepted_list kind stated from to (length buffer) (sym p.answered ∙ e) in
       let g = sent_gaps kind stated from to a.1 in
       let count : lines ≡ length (gaps from to) = p.counted ∙ rw e in
       let size : length text ≡ 17 * lines =
-      gap_lines-length kind stated (gaps from to) s g.1 ∙ ap (λ n. 17 * n) (sym count) in
-      let bytes : after ≡ text ++ drop (17 * lines) buffer = p.bytes ∙ rw (e, size) in
-      (count, omega (arith, count, g.0, a.0), bytes, rw bytes (take_at text (drop (17 * lines) buffer) (17 * lines) size))
+      gap_lines-length kind stated (gaps from to) (sent_small kind stated from to a.1) g.1
+      ∙ ap (λ n. 17 * n) (sym count) in
+      let bytes : after ≡ text ++ drop (17 * lines) buffer = p.bytes ∙ rw (e, size) in (
+        count,
+        omega (arith, count, g.0, a.0),
+        bytes,
+        rw bytes (take_at text (drop (17 * lines) buffer) (17 * lines) size),
+      )
