@@ -13,4 +13,5 @@ pub lines_most : {before register : Register} {text buffer buffer' : List ℕ} {
     → RunPost before text buffer register count buffer'
     → count ≤ length buffer / 55
 unfolding run_of
-lines_most {text = text} {buffer = buffer} p = omega (arith, p.lines, lines_in_most line_in 43 (length buffer / 55) text)
+lines_most {text = text} {buffer = buffer} p =
+    omega (arith, p.lines, lines_in_most line_in 43 (length buffer / 55) text)

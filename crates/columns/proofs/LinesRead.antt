@@ -27,7 +27,8 @@ module _ {A : Type 0} (reading : List ℕ → Option A) (w : ℕ) where
   -- after some lines of at most n
   pub record ReadSoFar (n : ℕ) (text : List ℕ) (found : List A) : Type 0 where
     pub few : length found ≤ n
-    pub whole : lines_in reading w n text ≡ found ++ lines_in reading w (n - length found) (drop (w * length found) text)
+    pub whole : lines_in reading w n text
+        ≡ found ++ lines_in reading w (n - length found) (drop (w * length found) text)
 
   module _ (n : ℕ) (text : List ℕ) (found : List A) (s : ReadSoFar n text found) where
     -- a line more

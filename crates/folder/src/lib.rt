@@ -1,6 +1,6 @@
 // The files of a working folder: the board opened from `plan`, the calls of `calls` run on it, and the journal or the
-// shift sheet printed; or what is due for the worksites of `worksites`. What goes wrong outside documents 01 and 02 is a
-// `Failure`: it is said on standard error, with the file's name, and ends the run with the exit status 1; standard
+// shift sheet printed; or what is due for the worksites of `worksites`. What goes wrong outside documents 01 and 02 is
+// a `Failure`: it is said on standard error, with the file's name, and ends the run with the exit status 1; standard
 // output stays theirs.
 #![tactic(auto)]
 

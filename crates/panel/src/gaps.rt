@@ -1,6 +1,6 @@
 // The cases of what is due for the gaps between worksites: a file with a line for each, which has the bytes of the
-// buffer, the kind, the officer's statement and the worksites as FROM-TO, a blank between them, and behind a colon and a
-// blank the heading. A worksite with nothing before or behind its hyphen is a to or a from alone.
+// buffer, the kind, the officer's statement and the worksites as FROM-TO, a blank between them, and behind a colon and
+// a blank the heading. A worksite with nothing before or behind its hyphen is a to or a from alone.
 use crate::output::{print, print_row, read};
 use arrayvec::ArrayVec;
 use std::rt::Files;

@@ -1,5 +1,5 @@
--- Worksites inside an authority: what is due for each gap between them, a line each (02, order 9). No call of the board:
--- it reads no register. Assumes nothing.
+-- Worksites inside an authority: what is due for each gap between them, a line each (02, order 9). No call of the
+-- board: it reads no register. Assumes nothing.
 use Rattle.std.specs.Prelude.{ℕ, ◌-◌, ◌*◌, ◌≡◌, Bool, true, false, cond, not, ◌&&◌, ◌||◌, List, [], ◌∷◌, ◌++◌, map}
 use Rattle.std.specs.Prelude.{length, drop, eqb, leb, ltb}
 use Rattle.lists.specs.Search.{any}

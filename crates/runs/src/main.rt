@@ -1,7 +1,7 @@
 // Runs for the gate: goes through the folders that the file `list` names, a line each with what it shows behind a
 // blank, and prints the journal and the sheet of each as the journal program and the sheet program do, with the exit
-// status of each; and through those that `list_worksites` names, and prints what is due for the worksites of each as the
-// worksites program does. What goes wrong is printed too, in its place.
+// status of each; and through those that `list_worksites` names, and prints what is due for the worksites of each as
+// the worksites program does. What goes wrong is printed too, in its place.
 #![tactic(auto)]
 
 use folder::{Names, end_run, print_gaps, print_journal, print_sheet, read_file};

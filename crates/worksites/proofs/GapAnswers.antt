@@ -13,7 +13,8 @@ use Rattle.columns.specs.Line.{Written}
 use Rattle.columns.proofs.Writing.{total, line_fills}
 use Rattle.rules.specs.Refusals.{lowest}
 use Rattle.rules.specs.Worksites.{is_twa_no, is_stated, is_list, gaps, is_too_far, are_too_far}
-use Rattle.rules.specs.Worksites.{worksites_refusals, worksites_answer, due, gap_widths, gap_line, gap_lines, WorksitesPost}
+use Rattle.rules.specs.Worksites.{worksites_refusals, worksites_answer, due, gap_widths, gap_line, gap_lines}
+use Rattle.rules.specs.Worksites.{WorksitesPost}
 use Rattle.rules.proofs.Gaps.{list_within, sent_gaps, gap_fits}
 
 module _ (kind stated : ℕ) (from to buffer : List ℕ) where

@@ -16,7 +16,8 @@ pub none_yet : (from to starts : List ℕ) → 1 ≤ length from → length from
     → SoFar from to [] to starts
 none_yet from to starts h k e = rw e (record { room = omega (arith, length-drop 1 from); whole = refl })
 
-module _ (from to found : List ℕ) (t f : ℕ) (ends starts : List ℕ) (s : SoFar from to found (t ∷ ends) (f ∷ starts)) where
+module _ (from to found : List ℕ) (t f : ℕ) (ends starts : List ℕ)
+    (s : SoFar from to found (t ∷ ends) (f ∷ starts)) where
   pub gap_room : length found + 1 ≤ 31
   gap_room = omega (arith, s.room)
 

@@ -27,7 +27,8 @@ pair_of None second fed = None
 
 -- a line by its columns
 by_columns : (line : List ℕ) → pair_in line
-    ≡ pair_of (first_column most 8 line) (first_column most 8 (drop 8 line)) (same_text (drop 8 (drop 8 line)) (10 ∷ []))
+    ≡ pair_of (first_column most 8 line) (first_column most 8 (drop 8 line))
+    (same_text (drop 8 (drop 8 line)) (10 ∷ []))
 unfolding pair_in row_of pair_of
 by_columns line =
     go (first_column most 8 line) (first_column most 8 (drop 8 line)) (same_text (drop 8 (drop 8 line)) (10 ∷ []))

@@ -7,7 +7,8 @@ use native.Mathlib.Omega.{arith}
 use borrow.Author.Tests.{ne_eqb, eq-eqb}
 use lib.ListN.{length}
 use Rattle.std.specs.Prelude.{min}
-use Rattle.worksites.specs.SentText.{pairs_in, is_malformed, malformed_line, narrowed, kind_in, stated_in, from_in, to_in}
+use Rattle.worksites.specs.SentText.{pairs_in, is_malformed, malformed_line, narrowed, kind_in, stated_in, from_in}
+use Rattle.worksites.specs.SentText.{to_in}
 
 module _ (text : List ℕ) (pairs : List (ℕ × ℕ)) (p : pairs ≡ pairs_in text) where
   -- no line was read
@@ -20,7 +21,8 @@ module _ (text : List ℕ) (pairs : List (ℕ × ℕ)) (p : pairs ≡ pairs_in t
       → (is_malformed text ≡ true) × (length pairs + 1 ≡ malformed_line text)
   unfolding is_malformed
   bytes_left h =
-      let left : 17 * length (pairs_in text) ≡ min (length text) 578 → ⊥ = λ e. h (ap (λ n. 17 * n) (ap length p) ∙ e) in
+      let left : 17 * length (pairs_in text) ≡ min (length text) 578 → ⊥ =
+      λ e. h (ap (λ n. 17 * n) (ap length p) ∙ e) in
       (rw (ne_eqb (17 * length (pairs_in text)) (min (length text) 578) left) (or-true _), rw p)
 
   -- all was read

@@ -33,8 +33,8 @@ fn write_lines(kind: u16, stated: u16, gaps: &[u32], lines: &mut [u8])
 }
 
 // Says for each gap between the worksites of an authority what is due: a line each at the front of the buffer, and how
-// many there are. A buffer under 31 lines, what is no list for the kind, and a TWA's gap that is too far are refused, in
-// this order; then nothing is written.
+// many there are. A buffer under 31 lines, what is no list for the kind, and a TWA's gap that is too far are refused,
+// in this order; then nothing is written.
 pub fn write_gaps(
     kind: u16,
     stated: u16,

@@ -22,6 +22,6 @@ pub returns : goal.returns
 unfolding gap_lines
 returns c =
     let l = c.loop-i in
-    let all = listed_all (gap_line c.args.kind c.args.stated) 17 c.args.gaps.now c.args.lines.now l.i l.lines l.invariant
-    c.loop-i-test.false l.auto.i-end in
+    let all = listed_all (gap_line c.args.kind c.args.stated) 17 c.args.gaps.now c.args.lines.now l.i l.lines
+    l.invariant c.loop-i-test.false l.auto.i-end in
     all.bytes ∙ rw all.size
