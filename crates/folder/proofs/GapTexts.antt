@@ -10,7 +10,7 @@ use Rattle.rules.specs.Answer.{refusal_no}
 use Rattle.rules.specs.Worksites.{worksites_answer, WorksitesPost}
 use Rattle.rules.proofs.Answers.{positive}
 use Rattle.rules.proofs.Gaps.{accepted_lines}
-use Rattle.worksites.specs.SentText.{gaps_text}
+use Rattle.worksites.specs.ListText.{gaps_text}
 
 module _ {kind stated : ℕ} {from to buffer : List ℕ} {given lines : ℕ} {after : List ℕ}
     (p : WorksitesPost kind stated from to buffer given lines after) (room : length buffer ≡ 527) where

@@ -11,7 +11,7 @@ use Rattle.rules.specs.Sheet.{sheet}
 use Rattle.calls.specs.Run.{Run, run_of}
 use Rattle.folder.specs.declared.failure.Failure.{Failure}
 use Rattle.folder.specs.declared.failure.Failure.TheVariants.{File, Malformed, Endless, MalformedWorksites}
-use Rattle.worksites.specs.SentText.{is_malformed, malformed_line, gaps_printed}
+use Rattle.worksites.specs.ListText.{is_malformed, malformed_line, gaps_printed}
 
 -- a file could not be opened, read or written
 abbrev pub IsFile : Failure → Type 0

@@ -3,7 +3,7 @@ ghost use Rattle.std.specs.Prelude.{◌≡◌, OnOk, IfErr};
 ghost use Rattle.std.specs.Io.KnownBytes.{Appends};
 ghost use Rattle.std.specs.Process.{exit_status};
 ghost use Rattle.folder.specs.Outcomes.{IsFile, GapsAfter, GapsPrinted};
-ghost use Rattle.worksites.specs.SentText.{gaps_text};
+ghost use Rattle.worksites.specs.ListText.{gaps_text};
 
 use crate::failure::{Failure, end_run};
 use crate::input::read_file;
@@ -11,17 +11,17 @@ use crate::output::{print, print_number};
 use std::io::Write;
 use std::process::ExitCode;
 use std::rt::Files;
-use worksites::{Sent, TEXT_SIZE, read_sent, write_gaps};
+use worksites::{TEXT_SIZE, WorksiteList, read_list, write_gaps};
 
-// Prints a line for each gap between the worksites that were sent; the answer, where they are refused. 31 lines of 17
-// bytes are room enough.
-fn print_lines<W: Write>(sent: &Sent, output: &mut W) -> Result<(), Failure<'static>>
+// Prints a line for each gap between the worksites of a list; the answer, where it is refused. 31 lines of 17 bytes are
+// room enough.
+fn print_lines<W: Write>(list: &WorksiteList, output: &mut W) -> Result<(), Failure<'static>>
     ensures written { OnOk result (Appends (W.contents output.old) (W.contents output.new)
-        (gaps_text sent.now.kind sent.now.stated sent.now.from.items sent.now.to.items)) }
+        (gaps_text list.now.kind list.now.stated list.now.from.items list.now.to.items)) }
     ensures failed { IfErr result IsFile }
 {
     let mut lines = [0; 31 * 17];
-    match write_gaps(sent.kind, sent.stated, &sent.from, &sent.to, &mut lines) {
+    match write_gaps(list.kind, list.stated, &list.from, &list.to, &mut lines) {
         Ok(count) => print(output, &lines[..17 * count]),
         Err(refusal) => print_number(output, u16::from(refusal)),
     }
@@ -31,8 +31,8 @@ fn print_lines<W: Write>(sent: &Sent, output: &mut W) -> Result<(), Failure<'sta
 fn print_text<'a, W: Write>(text: &[u8], name: &'a [u8], output: &mut W) -> Result<(), Failure<'a>>
     ensures { GapsAfter text.now (W.contents output.old) (W.contents output.new) result }
 {
-    match read_sent(text) {
-        Ok(sent) => print_lines(&sent, output),
+    match read_list(text) {
+        Ok(list) => print_lines(&list, output),
         Err(line) => Err(Failure::MalformedWorksites {
             name,
             // Kept: a cast, which loses nothing: a count of lines has no `From` into 64 bits.

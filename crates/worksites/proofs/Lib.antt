@@ -3,5 +3,5 @@ mod SiteSteps
 mod GapSteps
 mod GapAnswers
 mod PairLines
-mod SentTexts
+mod ListTexts
 pub mod GapUses

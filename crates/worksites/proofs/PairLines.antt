@@ -13,7 +13,7 @@ use Rattle.columns.specs.Reading.{same_text, read_column, first_column, Row, wit
 use Rattle.columns.proofs.Writing.{total}
 use Rattle.columns.proofs.Rows.{first_short, first_part, row_length}
 use Rattle.rules.specs.Worksites.{gap_widths}
-use Rattle.worksites.specs.SentText.{pair_in}
+use Rattle.worksites.specs.ListText.{pair_in}
 
 abbrev most : ℕ
 most = 99999999

@@ -1,2 +1,2 @@
 -- The definitions that the contracts of this crate cite beside those of rules.
-pub mod SentText
+pub mod ListText

@@ -1,10 +1,20 @@
-// The gaps between worksites, and what is due for each.
+// The gaps between worksites, and what is due for each, by document 02's numbers.
 ghost use Rattle.std.specs.Prelude.{◌≡◌, ◌-◌, ◌≤◌, length};
 ghost use Rattle.lists.specs.Search.{any};
 ghost use Rattle.rules.specs.Worksites.{gaps, is_too_far, due_in_lpa, due_in_twa, due};
 
-use crate::sent::is_lpa;
+use crate::list::is_lpa;
 use arrayvec::ArrayVec;
+
+// What is due for a gap, but where the officer states it.
+// Kept: numbers, and no enum: for a near gap it is the very number that the officer stated.
+const ONE_WORKSITE: u32 = 1;
+
+const MIDWAY: u32 = 3;
+
+const EACH_END: u32 = 4;
+
+const SEVERAL: u32 = 5;
 
 // The gaps between 1 to 32 worksites: each next start minus the last end.
 pub fn gaps_of(from: &[u32], to: &[u32]) -> ArrayVec<u32, 31>
@@ -34,9 +44,9 @@ fn due_in_lpa(stated: u16, gap: u32) -> u32
     if gap < 500 {
         u32::from(stated)
     } else if gap <= 1000 {
-        3
+        MIDWAY
     } else {
-        4
+        EACH_END
     }
 }
 
@@ -45,7 +55,7 @@ fn due_in_lpa(stated: u16, gap: u32) -> u32
 fn due_in_twa(gap: u32) -> u32
     ensures { result ≡ due_in_twa gap }
 {
-    if gap < 1000 { 1 } else { 5 }
+    if gap < 1000 { ONE_WORKSITE } else { SEVERAL }
 }
 
 // What is due for a gap.

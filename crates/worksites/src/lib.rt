@@ -4,8 +4,8 @@
 
 mod gaps;
 mod lines;
-mod sent;
+mod list;
 mod text;
 
 pub use lines::write_gaps;
-pub use text::{Sent, TEXT_SIZE, read_sent};
+pub use text::{TEXT_SIZE, WorksiteList, read_list};

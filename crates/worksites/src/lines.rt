@@ -4,7 +4,7 @@ ghost use Rattle.rules.specs.Answer.{answer_no, lines_no};
 ghost use Rattle.rules.specs.Worksites.{gap_line, gap_lines, WorksitesPost};
 
 use crate::gaps::{due, gaps_of, is_any_too_far};
-use crate::sent::{is_list, is_stated, is_twa};
+use crate::list::{is_list, is_stated, is_twa};
 use rules::Refusal;
 
 // A line has two columns of 8 and a line feed; a list has 31 lines at most.

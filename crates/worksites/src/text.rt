@@ -1,6 +1,6 @@
 // A text of worksites read: the kind and the officer's statement on its first line, then a worksite a line.
 ghost use Rattle.std.specs.Prelude.{◌≡◌, ◌≤◌, min, map, length};
-ghost use Rattle.worksites.specs.SentText.{pair_in, pairs_in, SentRead};
+ghost use Rattle.worksites.specs.ListText.{pair_in, pairs_in, ListRead};
 
 use arrayvec::ArrayVec;
 use columns::{is_line_feed, read_column};
@@ -14,9 +14,9 @@ const MOST_LINES: usize = 1 + 32 + 1;
 // As much of a text as is read.
 pub const TEXT_SIZE: usize = MOST_LINES * LINE_SIZE;
 
-// What the officer sends.
+// What the officer sends: the kind, the statement, and from and to of each worksite.
 #[derive(Clone, Drop)]
-pub struct Sent {
+pub struct WorksiteList {
     pub kind: u16,
     pub stated: u16,
     pub from: ArrayVec<u32, 33>,
@@ -76,8 +76,8 @@ fn worksites_on(pairs: &[(u32, u32)]) -> (ArrayVec<u32, 33>, ArrayVec<u32, 33>)
 
 // The kind, the statement and the worksites of a text; or, where a line is malformed, its number: lines count from 1,
 // and a text with none has a malformed line 1.
-pub fn read_sent(text: &[u8]) -> Result<Sent, usize>
-    ensures { SentRead text.now result }
+pub fn read_list(text: &[u8]) -> Result<WorksiteList, usize>
+    ensures { ListRead text.now result }
 {
     let pairs = read_pairs(text);
     let Some(((kind, stated), worksites)) = pairs.split_first() else {
@@ -87,7 +87,7 @@ pub fn read_sent(text: &[u8]) -> Result<Sent, usize>
         return Err(pairs.len() + 1);
     }
     let (from, to) = worksites_on(worksites);
-    Ok(Sent {
+    Ok(WorksiteList {
         kind: narrowed(*kind),
         stated: narrowed(*stated),
         from,

@@ -3,7 +3,7 @@
 use Rattle.std.proofs.Common.{arith, ap, sym, length, length-drop, ◌*◌, ◌∙◌}
 use Rattle.columns.proofs.Chunks.{next_line}
 use Rattle.columns.proofs.LinesRead.{line_more, line_malformed, lines_over}
-use Rattle.worksites.specs.SentText.{pair_in, pairs_in}
+use Rattle.worksites.specs.ListText.{pair_in, pairs_in}
 use Rattle.worksites.proofs.PairLines.{no_pair}
 use Rattle.worksites.proofs.text.read_pairs.Goals as goal
 

@@ -2,7 +2,7 @@ use Rattle.std.proofs.Common.{◌≡◌, ◌-◌, ◌*◌, length, drop}
 use Rattle.std.specs.Iterator.Adapters.{take_source, take_count}
 use Rattle.std.specs.Slice.Iter.{chunks_exact_rest, chunks_exact_size}
 use Rattle.columns.proofs.LinesRead.{ReadSoFar}
-use Rattle.worksites.specs.SentText.{pair_in}
+use Rattle.worksites.specs.ListText.{pair_in}
 use Rattle.worksites.proofs.text.read_pairs.Given as goal
 
 abbrev pub invariant-loop-line : goal.invariant-loop-line

@@ -7,8 +7,8 @@ use native.Mathlib.Omega.{arith}
 use borrow.Author.Tests.{ne_eqb, eq-eqb}
 use lib.ListN.{length}
 use Rattle.std.specs.Prelude.{min}
-use Rattle.worksites.specs.SentText.{pairs_in, is_malformed, malformed_line, narrowed, kind_in, stated_in, from_in}
-use Rattle.worksites.specs.SentText.{to_in}
+use Rattle.worksites.specs.ListText.{pairs_in, is_malformed, malformed_line, narrowed, kind_in, stated_in, from_in}
+use Rattle.worksites.specs.ListText.{to_in}
 
 module _ (text : List ℕ) (pairs : List (ℕ × ℕ)) (p : pairs ≡ pairs_in text) where
   -- no line was read

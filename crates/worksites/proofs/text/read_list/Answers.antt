@@ -1,7 +1,7 @@
--- `worksites::text::read_sent` meets its contract. Assumes nothing.
+-- `worksites::text::read_list` meets its contract. Assumes nothing.
 use Rattle.std.proofs.Common.{◌∙◌, ◌+◌, ap, sym, arith}
-use Rattle.worksites.proofs.SentTexts.{no_line, bytes_left, all_read, first_sent, worksites_sent}
-use Rattle.worksites.proofs.text.read_sent.Goals as goal
+use Rattle.worksites.proofs.ListTexts.{no_line, bytes_left, all_read, first_sent, worksites_sent}
+use Rattle.worksites.proofs.text.read_list.Goals as goal
 
 pub returns-in_default : goal.returns-in_default
 returns-in_default c = no_line _ _ (c.deref.ensures.0 ∙ c.read_pairs-pairs.ensures) c.in_default.ensures.cases

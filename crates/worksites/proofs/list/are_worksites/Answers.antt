@@ -1,4 +1,4 @@
--- `worksites::sent::are_worksites` meets its contract. The loop's invariant: the answer is that of the worksites still
+-- `worksites::list::are_worksites` meets its contract. The loop's invariant: the answer is that of the worksites still
 -- to come. Assumes nothing.
 use Rattle.std.proofs.Common.{◌∷◌}
 use Rattle.std.specs.Iterator.Adapters.{zip_first, zip_second}
@@ -6,8 +6,8 @@ use Rattle.std.specs.Slice.Iter.{iter_rest}
 use Rattle.std.proofs.lemmas.Slice.Zip.{Zip-more}
 use Rattle.std.proofs.lemmas.Iterator.{empty_from_Zip}
 use Rattle.worksites.proofs.SiteSteps.{ToCome, sites_unpaired, site_no, site_next, sites_end}
-use Rattle.worksites.proofs.sent.are_worksites.Goals as goal
-use Rattle.worksites.proofs.sent.are_worksites.Goals.{In-Some}
+use Rattle.worksites.proofs.list.are_worksites.Goals as goal
+use Rattle.worksites.proofs.list.are_worksites.Goals.{In-Some}
 
 pub returns-then-from-to : goal.returns-then-from-to
 returns-then-from-to c = sites_unpaired _ _ c.if-from-to.true

@@ -6,7 +6,7 @@ use Rattle.columns.specs.Line.{line}
 use Rattle.columns.specs.Reading.{row_of}
 use Rattle.columns.specs.LinesIn.{lines_in}
 use Rattle.rules.specs.Worksites.{gap_widths, gaps, gap_lines, worksites_answer}
-use Rattle.worksites.specs.declared.text.Sent.{Sent}
+use Rattle.worksites.specs.declared.text.WorksiteList.{WorksiteList}
 
 -- ---- what is read
 
@@ -51,12 +51,12 @@ abbrev pub to_in : List ℕ → List ℕ
 to_in text = map (λ p. p.1) (drop 1 (pairs_in text))
 
 -- the whole result of reading a text
-abbrev pub SentRead : List ℕ → Result Sent ℕ → Type 0
-SentRead text (Ok sent) =
-    (is_malformed text ≡ false) × (sent.kind ≡ kind_in text) × (sent.stated ≡ stated_in text)
-    × (sent.from.items ≡ from_in text)
-    × (sent.to.items ≡ to_in text)
-SentRead text (Err n) = (is_malformed text ≡ true) × (n ≡ malformed_line text)
+abbrev pub ListRead : List ℕ → Result WorksiteList ℕ → Type 0
+ListRead text (Ok list) =
+    (is_malformed text ≡ false) × (list.kind ≡ kind_in text) × (list.stated ≡ stated_in text)
+    × (list.from.items ≡ from_in text)
+    × (list.to.items ≡ to_in text)
+ListRead text (Err n) = (is_malformed text ≡ true) × (n ≡ malformed_line text)
 
 -- ---- what is printed
 

@@ -1,7 +1,7 @@
 use Rattle.std.specs.Iterator.Adapters.{zip_first, zip_second}
 use Rattle.std.specs.Slice.Iter.{iter_rest}
 use Rattle.worksites.proofs.SiteSteps.{ToCome}
-use Rattle.worksites.proofs.sent.are_worksites.Given as goal
+use Rattle.worksites.proofs.list.are_worksites.Given as goal
 
 abbrev pub invariant-loop-start : goal.invariant-loop-start
 invariant-loop-start l =
